@@ -1,0 +1,105 @@
+-- The course of a turn: what the turn wants of the linear memory, one step after another, and what comes of it. Parts of
+-- pages go by the number of their translation, so a course sees words and never a frame: it is the same course over a
+-- guest's memory and over host memory. `play` gives it its meaning, and tells what was done.
+use Rattle.std.specs.Prelude.{ℕ, ◌+◌, ◌*◌, ◌/◌, ◌%◌, ◌==◌, nat_lt, List, [], ◌∷◌, ◌++◌, Bool, if◌then◌else◌, length, take, drop, slice_index}
+use Rattle.svm_model.specs.Guest.{Vcpu}
+use Rattle.svm_model.specs.PageTables.{walked}
+use Rattle.svm_model.specs.declared.names.Access.{Access}
+use Rattle.svm_model.specs.declared.names.Kind.{Kind}
+use Rattle.svm_model.specs.declared.page_tables.Paging.{Paging}
+use Rattle.svm_model.specs.declared.page_tables.Pass.{Pass}
+use Rattle.svm_model.specs.declared.page_tables.Walked.{Walked}
+use Rattle.svm_model.specs.declared.page_tables.Walked.TheVariants.{Leaf, PageFault, Ended}
+use Rattle.svm_model.specs.declared.turns.Stepped.{Stepped}
+
+-- the part of one page that an access touches, by the linear address of its first byte
+pub record Part : Type 0 where
+  pub address : ℕ
+  pub kind : Kind
+  pub user : Bool
+
+-- What a course learns of a translation: the part is in the guest's memory, or on the APIC page; or the walk faults; or
+-- a byte is outside the guest's memory, a table entry's or the part's first.
+pub data Translation : Type 0 where
+  Here : Translation
+  OnApic : Translation
+  Faults : (code : ℕ) → Translation
+  Outside : (address : ℕ) → Translation
+
+pub data Course : Type 0 where
+  -- the turn is over
+  Done : (vcpu : Vcpu) (stepped : Stepped) → Course
+  -- the part is translated; one that is there gets the next number
+  Translate : (part : Part) (next : Translation → Course) → Course
+  -- so many bytes are read in the page of a translation, from the offset of this linear address on
+  Read : (index address count : ℕ) (next : List ℕ → Course) → Course
+
+-- How a turn's accesses are translated. Without nested paging a physical address is one of the guest's memory.
+pub data Outer : Type 0 where
+  Direct : Outer
+
+pub record Way : Type 0 where
+  pub asid : ℕ
+  pub outer : Outer
+  pub paging : Paging
+
+-- the walk of an access, and memory after it
+abbrev pub walked_over : Outer → List ℕ → Paging → Access → Walked × List ℕ
+walked_over Direct memory paging access = walked memory paging access
+
+-- the passes of that walk through the outer tables
+abbrev pub passed_over : Outer → List ℕ → Paging → Access → List Pass
+passed_over Direct memory paging access = []
+
+-- what a turn did that copies of tables have to do with, in order
+pub data Told : Type 0 where
+  Accessed : (asid : ℕ) (access : Access) (walked : Walked) (passed : List Pass) → Told
+
+-- what playing a course gives
+pub record Turned : Type 0 where
+  pub memory : List ℕ
+  pub vcpu : Vcpu
+  pub stepped : Stepped
+  pub told : List Told
+
+-- what comes after a thing that was told of
+abbrev pub after : Told → Turned → Turned
+after told turned = record { memory = turned.memory; vcpu = turned.vcpu; stepped = turned.stepped; told = told ∷ turned.told }
+
+abbrev pub access_of : Part → Access
+access_of part = record { page = record { 0 = part.address / 4096 }; kind = part.kind; user = part.user }
+
+-- the physical address of a linear one in a page's frame
+abbrev pub place_in : ℕ → ℕ → ℕ
+place_in frame address = 4096 * frame + address % 4096
+
+-- the frame of the APIC page, FEE00h
+abbrev pub apic_frame : ℕ
+apic_frame = 1043968
+
+-- a part goes on at its frame, if that is the guest's
+abbrev pub on_frame : Part → ℕ → List ℕ → (ℕ → List ℕ → Turned) → (Translation → List ℕ → Turned) → Turned
+on_frame part frame memory here stops =
+    if frame == apic_frame then stops OnApic memory
+    else if nat_lt (4096 * frame) (length memory) then here frame memory
+    else stops (Outside (place_in frame part.address)) memory
+
+abbrev pub on_walk : Part → Walked → List ℕ → (ℕ → List ℕ → Turned) → (Translation → List ℕ → Turned) → Turned
+on_walk part (Leaf leaf changed) memory here stops = on_frame part leaf.frame.0 memory here stops
+on_walk part (PageFault code) memory here stops = stops (Faults code) memory
+on_walk part (Ended outside) memory here stops = stops (Outside outside.address) memory
+
+-- a part is walked for, which is told whatever comes of it
+abbrev pub translating : Way → List ℕ → Part → (ℕ → List ℕ → Turned) → (Translation → List ℕ → Turned) → Turned
+translating way memory part here stops =
+    let access = access_of part in
+    let walk = walked_over way.outer memory way.paging access in
+    after (Accessed way.asid access walk.0 (passed_over way.outer memory way.paging access)) (on_walk part walk.0 walk.1 here stops)
+
+-- the meaning of a course over memory, with the frames of the parts translated so far
+abbrev pub play : Way → List ℕ → List ℕ → Course → Turned
+play way memory frames (Done vcpu stepped) = record { memory = memory; vcpu = vcpu; stepped = stepped; told = [] }
+play way memory frames (Translate part next) =
+    translating way memory part (λ frame m. play way m (frames ++ frame ∷ []) (next Here)) (λ stop m. play way m frames (next stop))
+play way memory frames (Read index address count next) =
+    play way memory frames (next (take count (drop (place_in (slice_index frames index) address) memory)))

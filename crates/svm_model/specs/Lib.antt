@@ -1,0 +1,12 @@
+pub mod Bits
+pub mod Bytes
+pub mod Course
+pub mod Guest
+pub mod Image
+pub mod Instruction
+pub mod PageTables
+pub mod RegisterFile
+pub mod Rows
+pub mod Script
+pub mod Text
+pub mod World

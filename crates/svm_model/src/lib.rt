@@ -1,0 +1,27 @@
+//! The definitions that all contracts of Mardwisk cite, and the plain types that they speak of.
+//!
+//! `specs/` holds the model: memory as a list of bytes, the page walk, the instruction rows, the course of a turn and
+//! what playing it gives, a guest and a world, and what images, scripts and printed lines mean. `src/` has the types of
+//! these definitions and no code. `proofs/` has the laws that several crates use. The crate stands on nothing; the
+//! layers above offer its types again under their own names.
+#![tactic(auto)]
+
+mod formats;
+mod names;
+mod page_tables;
+mod register_file;
+mod rows;
+mod traps;
+mod turns;
+mod windows;
+
+pub use formats::{ImageReason, ScriptLine, ScriptReason};
+pub use names::{
+    Access, CpuId, Effect, End, Ended, Event, Frame, GuestId, Kind, LinearPage, NoMemory, VcpuId,
+};
+pub use page_tables::{Entry, Leaf, PageSize, Paging, Pass, Walked};
+pub use register_file::{Registers, Segment};
+pub use rows::{Decoded, Form, Op, Operand, Row, Width};
+pub use traps::{Cause, Trap};
+pub use turns::Stepped;
+pub use windows::{GuestWindow, OutsideMemory};

@@ -1,0 +1,14 @@
+//! The names that all layers share: guests, processors, vcpus, pages, accesses, events and ends, and a vcpu's registers
+//! with the names of their bits.
+//!
+//! The types stand in `svm_model`, where the definitions speak of them; this crate offers them to code. It adds the bits
+//! of the control registers as `bitflags` types, whose calls are exact.
+#![tactic(auto)]
+
+mod control_bits;
+
+pub use control_bits::{Cr0Bits, Cr4Bits, EferBits};
+pub use svm_model::{
+    Access, Cause, CpuId, Effect, End, Ended, Event, Frame, GuestId, Kind, LinearPage, NoMemory,
+    Registers, Segment, Trap, VcpuId,
+};
