@@ -1,1 +1,3 @@
+pub mod PutLemmas
 pub mod WindowLemmas
+pub mod WorldLemmas

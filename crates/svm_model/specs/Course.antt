@@ -11,6 +11,8 @@ use Rattle.svm_model.specs.declared.page_tables.Pass.{Pass}
 use Rattle.svm_model.specs.declared.page_tables.Walked.{Walked}
 use Rattle.svm_model.specs.declared.page_tables.Walked.TheVariants.{Leaf, PageFault, Ended}
 use Rattle.svm_model.specs.declared.turns.Stepped.{Stepped}
+use Rattle.svm_model.specs.declared.turns.Translated.{Translated}
+use Rattle.svm_model.specs.declared.turns.Translated.TheVariants.{Here as InMemory, OnApic as AtApic, Faults as Unmapped, Outside as Beyond}
 
 -- the part of one page that an access touches, by the linear address of its first byte
 pub record Part : Type 0 where
@@ -77,24 +79,32 @@ place_in frame address = 4096 * frame + address % 4096
 abbrev pub apic_frame : ℕ
 apic_frame = 1043968
 
--- a part goes on at its frame, if that is the guest's
-abbrev pub on_frame : Part → ℕ → List ℕ → (ℕ → List ℕ → Turned) → (Translation → List ℕ → Turned) → Turned
-on_frame part frame memory here stops =
-    if frame == apic_frame then stops OnApic memory
-    else if nat_lt (4096 * frame) (length memory) then here frame memory
-    else stops (Outside (place_in frame part.address)) memory
+-- where a part lies, by its frame
+abbrev pub located : Part → ℕ → List ℕ → Translated
+located part frame memory =
+    if frame == apic_frame then AtApic
+    else if nat_lt (4096 * frame) (length memory) then InMemory (record { 0 = frame })
+    else Beyond (place_in frame part.address)
 
-abbrev pub on_walk : Part → Walked → List ℕ → (ℕ → List ℕ → Turned) → (Translation → List ℕ → Turned) → Turned
-on_walk part (Leaf leaf changed) memory here stops = on_frame part leaf.frame.0 memory here stops
-on_walk part (PageFault code) memory here stops = stops (Faults code) memory
-on_walk part (Ended outside) memory here stops = stops (Outside outside.address) memory
+-- where a part lies, by the walk for it
+abbrev pub translated : Part → Walked → List ℕ → Translated
+translated part (Leaf leaf changed) memory = located part leaf.frame.0 memory
+translated part (PageFault code) memory = Unmapped code
+translated part (Ended outside) memory = Beyond outside.address
+
+-- a part that is there goes on at its frame; the course is told of any other answer
+abbrev pub on_translated : Translated → List ℕ → (ℕ → List ℕ → Turned) → (Translation → List ℕ → Turned) → Turned
+on_translated (InMemory frame) memory here stops = here frame.0 memory
+on_translated AtApic memory here stops = stops OnApic memory
+on_translated (Unmapped code) memory here stops = stops (Faults code) memory
+on_translated (Beyond address) memory here stops = stops (Outside address) memory
 
 -- a part is walked for, which is told whatever comes of it
 abbrev pub translating : Way → List ℕ → Part → (ℕ → List ℕ → Turned) → (Translation → List ℕ → Turned) → Turned
 translating way memory part here stops =
     let access = access_of part in
     let walk = walked_over way.outer memory way.paging access in
-    after (Accessed way.asid access walk.0 (passed_over way.outer memory way.paging access)) (on_walk part walk.0 walk.1 here stops)
+    after (Accessed way.asid access walk.0 (passed_over way.outer memory way.paging access)) (on_translated (translated part walk.0 walk.1) walk.1 here stops)
 
 -- the meaning of a course over memory, with the frames of the parts translated so far
 abbrev pub play : Way → List ℕ → List ℕ → Course → Turned

@@ -1,7 +1,7 @@
 -- The image, version 1: what its bytes say, or the first place where they are refused. Numbers are little-endian.
-use Rattle.std.specs.Prelude.{ℕ, ◌+◌, ◌*◌, ◌-◌, ◌^◌, ◌==◌, ◌&&◌, nat_lt, nat_le, suc, zero, List, [], ◌∷◌, Bool, false, if◌then◌else◌, Option, Some, None, Result, Ok, Err, length, take, drop, replicate, codes, bit_and}
+use Rattle.std.specs.Prelude.{◌≡◌, ℕ, ◌≤◌, ◌+◌, ◌*◌, ◌-◌, ◌^◌, ◌==◌, ◌&&◌, nat_lt, nat_le, suc, zero, List, [], ◌∷◌, Bool, false, if◌then◌else◌, Option, Some, None, Result, Ok, Err, length, take, drop, replicate, codes, bit_and}
 use Rattle.std.specs.Int.{Width, w8, w16, w32, w64, byte_len, from_le_bytes}
-use Rattle.std.specs.List.{list_all}
+use Rattle.std.specs.List.{All, list_all}
 use Rattle.std.specs.Str.{bytes_eq}
 use Rattle.svm_model.specs.RegisterFile.{is_canonical}
 use Rattle.svm_model.specs.declared.formats.ImageReason.{ImageReason}
@@ -235,3 +235,27 @@ unfoldable pub image_of : List ℕ → Result Image ImageFault
 image_of bytes =
     if nat_lt image_limit (length bytes) then Err (record { place = image_limit; reason = TooLong })
     else image_in (record { place = 0; rest = bytes })
+
+-- What each image is, whatever its bytes.
+
+-- a segment has bytes, and they lie within the guest's pages
+pub record IsLawfulSegment (pages : ℕ) (segment : ImageSegment) : Type 0 where
+  pub some : 1 ≤ length segment.bytes
+  pub within : segment.address + length segment.bytes ≤ 4096 * pages
+
+pub record IsLawfulGuest (guest : ImageGuest) : Type 0 where
+  pub some_pages : 1 ≤ guest.pages
+  pub most_pages : guest.pages ≤ 16384
+  pub some_vcpus : 1 ≤ length guest.vcpus
+  pub most_vcpus : length guest.vcpus ≤ 8
+  pub most_segments : length guest.segments ≤ 4096
+  pub segments : All (IsLawfulSegment guest.pages) guest.segments
+
+pub record IsLawfulImage (image : Image) : Type 0 where
+  pub version : image.version ≡ 1
+  pub features : image.features ≡ 0
+  pub some_cpus : 1 ≤ image.cpus
+  pub most_cpus : image.cpus ≤ 8
+  pub some_guests : 1 ≤ length image.guests
+  pub most_guests : length image.guests ≤ 4
+  pub guests : All IsLawfulGuest image.guests

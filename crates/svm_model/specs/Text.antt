@@ -58,6 +58,10 @@ shown_registers r =
 abbrev pub register_text : List ℕ × ℕ → List ℕ
 register_text shown = if shown.1 == 0 then [] else codes " " ⧺ shown.0 ⧺ codes "=" ⧺ hex shown.1
 
+-- the shown registers, a blank before each
+unfoldable pub registers_text : Registers → List ℕ
+registers_text r = flat_map register_text (shown_registers r)
+
 abbrev pub state_name : Bool → List ℕ
 state_name halted = if halted then codes "halted" else codes "ready"
 
@@ -65,7 +69,7 @@ state_name halted = if halted then codes "halted" else codes "ready"
 unfoldable pub vcpu_line : ℕ → ℕ → ℕ → Bool → Registers → List ℕ
 vcpu_line guest index level halted r =
     codes "vcpu " ⧺ decimal guest ⧺ codes "." ⧺ decimal index ⧺ codes " l" ⧺ decimal level ⧺ codes " " ⧺ state_name halted
-    ⧺ flat_map register_text (shown_registers r) ⧺ newline
+    ⧺ registers_text r ⧺ newline
 
 abbrev pub end_name : End → List ℕ
 end_name (Unlisted byte) = codes "Unlisted"

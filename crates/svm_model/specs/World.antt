@@ -177,3 +177,17 @@ single = record { cpus = 1; vcpus = 1 ∷ [] }
 
 abbrev pub IsSingle : World → Type 0
 IsSingle w = world_shape w ≡ single
+
+-- the image has one processor, and one guest with one vcpu whose interrupt table is empty
+abbrev pub is_offered_vcpu : List Registers → Bool
+is_offered_vcpu [] = false
+is_offered_vcpu (registers ∷ []) = registers.idtr.limit == 0
+is_offered_vcpu (a ∷ b ∷ vcpus) = false
+
+abbrev pub is_offered_guest : List ImageGuest → Bool
+is_offered_guest [] = false
+is_offered_guest (guest ∷ []) = is_offered_vcpu guest.vcpus
+is_offered_guest (a ∷ b ∷ guests) = false
+
+abbrev pub is_offered : Image → Bool
+is_offered image = (image.cpus == 1) && is_offered_guest image.guests

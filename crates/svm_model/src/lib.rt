@@ -23,5 +23,5 @@ pub use page_tables::{Entry, Leaf, PageSize, Paging, Pass, Walked};
 pub use register_file::{Registers, Segment};
 pub use rows::{Decoded, Form, Op, Operand, Row, Width};
 pub use traps::{Cause, Trap};
-pub use turns::Stepped;
+pub use turns::{Stepped, Translated};
 pub use windows::{GuestWindow, OutsideMemory};

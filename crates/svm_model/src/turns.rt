@@ -1,10 +1,23 @@
-// How a turn comes out.
+// What a turn's accesses lead to, and how the turn comes out.
 
-use crate::names::End;
+use crate::names::{End, Frame};
 
 /// The turn went through, or it ends its guest.
 #[derive(Clone, Copy)]
 pub enum Stepped {
     Went,
     Ends(End),
+}
+
+/// Where the part of a page that an access touches was found.
+#[derive(Clone, Copy)]
+pub enum Translated {
+    /// In the guest's memory.
+    Here { frame: Frame },
+    /// On the page of the local APIC.
+    OnApic,
+    /// Nowhere: the walk gives a page fault.
+    Faults { code: u32 },
+    /// A byte lies outside the guest's memory: a table entry's, or the first one of the part.
+    Outside { address: u64 },
 }

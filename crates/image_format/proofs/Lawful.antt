@@ -1,0 +1,122 @@
+-- Whatever bytes are an image, it is lawful.
+use Rattle.std.proofs.Common.{◌≡◌, ℕ, zero, suc, ◌+◌, ◌*◌, ◌≤◌, Bool, true, false, cond, ltb, leb, ◌&&◌, List, length, Result, Ok, Err, refl, ap, arith}
+use Rattle.std.specs.Prelude.{IfOk, ⊤}
+use Rattle.std.specs.Int.{Width, w8, w16, w32, w64}
+use Rattle.std.specs.List.{AllByRecursion}
+use Rattle.std.proofs.lemmas.Bool.{ltb-false, leb-true, and_parts}
+use Rattle.std.proofs.lemmas.List.{length-take}
+use Rattle.std.proofs.lemmas.List.Elements.{All-from_recursion}
+use Rattle.svm_model.specs.Image.{Image, ImageGuest, ImageFault, Source, ◌>>=◌, bytes_in, number_in, judged, bounded, zero_in, zeros_in, magic_in, vcpu_in, segment_in, many_in, guest_in, image_in, image_limit, image_of, IsLawfulSegment, IsLawfulGuest, IsLawfulImage}
+use Rattle.svm_model.specs.declared.formats.ImageReason.{ImageReason}
+use Rattle.svm_model.specs.declared.formats.ImageReason.TheVariants.{Version, Count, Range, Trailing}
+use Rattle.image_format.specs.declared.refusal.ImageRefusal.{ImageRefusal}
+use Rattle.image_format.specs.Reading.{GivesImage}
+
+-- what a step gives has a property if what follows a good value always does
+then : {A B : Type 0} (P : A → Type 0) (Q : B → Type 0) (r : Result A ImageFault) (f : A → Result B ImageFault) → IfOk r P → ((x : A) → P x → IfOk (f x) Q) → IfOk (r >>= f) Q
+then P Q (Ok x) f p q = q x p
+then P Q (Err fault) f p q = tt
+
+-- what passed a test
+passes : {A : Type 0} (s : Source) (reason : ImageReason) (good : Bool) (x : A) (Q : A → Type 0) → (good ≡ true → Q x) → IfOk (judged s reason good x) Q
+passes s reason true x Q h = h refl
+passes s reason false x Q h = tt
+
+always : {A : Type 0} (r : Result A ImageFault) → IfOk r (λ _. ⊤)
+always (Ok x) = tt
+always (Err fault) = tt
+
+either : {A : Type 0} (long : Bool) (fault : ImageFault) (r : Result A ImageFault) (Q : A → Type 0) → IfOk r Q → IfOk (cond long (Err fault) r) Q
+either true fault r Q h = tt
+either false fault r Q h = h
+
+-- a step whose value says nothing
+skip : {A B : Type 0} (Q : B → Type 0) (r : Result A ImageFault) (f : A → Result B ImageFault) → ((x : A) → IfOk (f x) Q) → IfOk (r >>= f) Q
+skip Q (Ok x) f q = q x
+skip Q (Err fault) f q = tt
+
+abbrev IsWithin : ℕ → ℕ → ℕ → Type 0
+IsWithin low high n = (low ≤ n) × (n ≤ high)
+
+both : (low n m high : ℕ) → (leb low n && leb m high) ≡ true → (low ≤ n) × (m ≤ high)
+both low n m high good = let p = and_parts (leb low n) (leb m high) good in (leb-true _ _ p.0, leb-true _ _ p.1)
+
+bounds : (w : Width) (low high : ℕ) (reason : ImageReason) (s : Source) → IfOk (bounded w low high reason s) (λ n. IsWithin low high n.0)
+bounds w low high reason s =
+    skip (λ n. IsWithin low high n.0) (number_in w s) _ (λ n. passes s reason (leb low n.0 && leb n.0 high) n _ (both low n.0 n.0 high))
+
+chosen : {A : Type 0} (short : Bool) (fault : ImageFault) (x : A) (Q : A → Type 0) → (short ≡ false → Q x) → IfOk (cond short (Err fault) (Ok x)) Q
+chosen true fault x Q h = tt
+chosen false fault x Q h = h refl
+
+sized : (count : ℕ) (s : Source) → IfOk (bytes_in count s) (λ bytes. length bytes.0 ≡ count)
+sized count s =
+    chosen (ltb (length s.rest) count) _ _ (λ bytes. length bytes.0 ≡ count) (λ long. omega (arith, ltb-false (length s.rest) count long, length-take count s.rest))
+
+all_many : {A : Type 0} (P : A → Type 0) (one : Source → Result (A × Source) ImageFault) → ((s : Source) → IfOk (one s) (λ x. P x.0)) → (count : ℕ) (s : Source)
+    → IfOk (many_in one count s) (λ xs. (length xs.0 ≡ count) × AllByRecursion P xs.0)
+unfolding many_in
+all_many P one h zero s = (refl, tt)
+all_many P one h (suc count) s =
+    then (λ x. P x.0) (λ xs. (length xs.0 ≡ suc count) × AllByRecursion P xs.0) (one s) _ (h s) (λ first p.
+    then (λ xs. (length xs.0 ≡ count) × AllByRecursion P xs.0) (λ xs. (length xs.0 ≡ suc count) × AllByRecursion P xs.0) (many_in one count first.1) _ (all_many P one h count first.1) (λ others q. (ap suc q.0, (p, q.1))))
+
+segment_is : (pages : ℕ) (s : Source) → IfOk (segment_in pages s) (λ x. IsLawfulSegment pages x.0)
+unfolding segment_in
+segment_is pages s =
+    skip (λ x. IsLawfulSegment pages x.0) (number_in w64 s) _ (λ address.
+    skip (λ x. IsLawfulSegment pages x.0) (number_in w32 address.1) _ (λ size.
+    then (λ fit. (1 ≤ fit.0) × (address.0 + fit.0 ≤ 4096 * pages)) (λ x. IsLawfulSegment pages x.0) (judged s Range (leb 1 size.0 && leb (address.0 + size.0) (4096 * pages)) size) _
+    (passes s Range (leb 1 size.0 && leb (address.0 + size.0) (4096 * pages)) size _ (both 1 size.0 (address.0 + size.0) (4096 * pages))) (λ fit h.
+    skip (λ x. IsLawfulSegment pages x.0) (zero_in w32 fit.1) _ (λ pad.
+    then (λ bytes. length bytes.0 ≡ fit.0) (λ x. IsLawfulSegment pages x.0) (bytes_in fit.0 pad.1) _ (sized fit.0 pad.1) (λ bytes e.
+    record { some = rw e h.0; within = rw e h.1 })))))
+
+guest_is : (s : Source) → IfOk (guest_in s) (λ x. IsLawfulGuest x.0)
+unfolding guest_in
+guest_is s =
+    let Q : ImageGuest × Source → Type 0 = λ x. IsLawfulGuest x.0 in
+    then (λ count. IsWithin 1 8 count.0) Q (bounded w8 1 8 Count s) _ (bounds w8 1 8 Count s) (λ count a.
+    skip Q (zeros_in count.1) _ (λ zeros.
+    then (λ pages. IsWithin 1 16384 pages.0) Q (bounded w32 1 16384 Count zeros.1) _ (bounds w32 1 16384 Count zeros.1) (λ pages b.
+    then (λ parts. IsWithin 0 4096 parts.0) Q (bounded w32 0 4096 Count pages.1) _ (bounds w32 0 4096 Count pages.1) (λ parts d.
+    skip Q (zero_in w32 parts.1) _ (λ pad.
+    then (λ vcpus. (length vcpus.0 ≡ count.0) × AllByRecursion (λ _. ⊤) vcpus.0) Q (many_in vcpu_in count.0 pad.1) _ (all_many (λ _. ⊤) vcpu_in (λ t. always (vcpu_in t)) count.0 pad.1) (λ vcpus e.
+    then (λ segments. (length segments.0 ≡ parts.0) × AllByRecursion (IsLawfulSegment pages.0) segments.0) Q (many_in (segment_in pages.0) parts.0 vcpus.1) _ (all_many (IsLawfulSegment pages.0) (segment_in pages.0) (segment_is pages.0) parts.0 vcpus.1) (λ segments f.
+    record {
+      some_pages = b.0;
+      most_pages = b.1;
+      some_vcpus = rw e.0 a.0;
+      most_vcpus = rw e.0 a.1;
+      most_segments = rw f.0 d.1;
+      segments = All-from_recursion _ segments.0 f.1;
+    })))))))
+
+image_is : (s : Source) → IfOk (image_in s) IsLawfulImage
+unfolding image_in
+image_is s =
+    skip IsLawfulImage (magic_in s) _ (λ magic.
+    then (λ version. IsWithin 1 1 version.0) IsLawfulImage (bounded w16 1 1 Version magic.1) _ (bounds w16 1 1 Version magic.1) (λ version a.
+    then (λ count. IsWithin 1 4 count.0) IsLawfulImage (bounded w8 1 4 Count version.1) _ (bounds w8 1 4 Count version.1) (λ count b.
+    then (λ cpus. IsWithin 1 8 cpus.0) IsLawfulImage (bounded w8 1 8 Count count.1) _ (bounds w8 1 8 Count count.1) (λ cpus d.
+    skip IsLawfulImage (zero_in w32 cpus.1) _ (λ pad.
+    then (λ guests. (length guests.0 ≡ count.0) × AllByRecursion IsLawfulGuest guests.0) IsLawfulImage (many_in guest_in count.0 pad.1) _ (all_many IsLawfulGuest guest_in guest_is count.0 pad.1) (λ guests e.
+    passes guests.1 Trailing _ _ IsLawfulImage (λ _.
+    record {
+      version = omega arith;
+      features = refl;
+      some_cpus = d.0;
+      most_cpus = d.1;
+      some_guests = rw e.0 b.0;
+      most_guests = rw e.0 b.1;
+      guests = All-from_recursion IsLawfulGuest guests.0 e.1;
+    })))))))
+
+pub image_of-lawful : (bytes : List ℕ) → IfOk (image_of bytes) IsLawfulImage
+unfolding image_of
+image_of-lawful bytes = either (ltb image_limit (length bytes)) _ _ IsLawfulImage (image_is (record { place = 0; rest = bytes }))
+
+-- what the code answers is what the definition gives
+pub GivesImage-lawful : (bytes : List ℕ) (r : Result Image ImageRefusal) → GivesImage r (image_of bytes) → IfOk r IsLawfulImage
+GivesImage-lawful bytes (Ok image) given = rw given at (image_of-lawful bytes)
+GivesImage-lawful bytes (Err refusal) given = tt
