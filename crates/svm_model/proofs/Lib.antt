@@ -1,3 +1,4 @@
 pub mod PutLemmas
+pub mod WalkLemmas
 pub mod WindowLemmas
 pub mod WorldLemmas

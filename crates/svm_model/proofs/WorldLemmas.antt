@@ -1,9 +1,9 @@
 -- The shape of a world, and of the image that it starts from.
 use Rattle.std.proofs.Common.{◌≡◌, ◌∙◌, ℕ, ◌==◌, ◌&&◌, Bool, true, false, List, [], ◌∷◌, length, map, ap, refl, arith}
 use Rattle.std.proofs.lemmas.Bool.Decides.{nat_tests}
-use Rattle.svm_model.specs.Guest.{Guest, Vcpu}
+use Rattle.svm_model.specs.Guest.{Guest}
 use Rattle.svm_model.specs.Image.{Image, ImageGuest}
-use Rattle.svm_model.specs.World.{World, Shape, world_of, world_shape, image_shape, first_guest, first_vcpu, single, is_offered, is_offered_guest, is_offered_vcpu}
+use Rattle.svm_model.specs.World.{world_of, world_shape, image_shape, first_guest, first_vcpu, single, is_offered, is_offered_guest, is_offered_vcpu}
 use Rattle.svm_model.specs.declared.register_file.Registers.{Registers}
 
 length-first_vcpus : (vcpus : List Registers) → length (map first_vcpu vcpus) ≡ length vcpus

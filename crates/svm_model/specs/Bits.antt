@@ -1,5 +1,5 @@
 -- Bits of a word, by their numbers.
-use Rattle.std.specs.Prelude.{ℕ, ◌+◌, ◌^◌, ◌==◌, Bool, not, if◌then◌else◌, bit_and}
+use Rattle.std.specs.Prelude.{ℕ, ◌==◌, Bool, not, if◌then◌else◌, bit_and}
 
 -- the word has all of these bits
 abbrev pub has : ℕ → ℕ → Bool

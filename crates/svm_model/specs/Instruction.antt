@@ -1,5 +1,5 @@
 -- The course of an instruction: its fetch, and what its row does.
-use Rattle.std.specs.Prelude.{ℕ, ◌+◌, ◌-◌, ◌%◌, ◌^◌, ◌==◌, min, List, ◌++◌, Bool, true, false, if◌then◌else◌, Option, Some, None, length}
+use Rattle.std.specs.Prelude.{ℕ, ◌+◌, ◌-◌, ◌%◌, ◌^◌, ◌==◌, min, List, ◌++◌, true, false, if◌then◌else◌, Some, None, length}
 use Rattle.svm_model.specs.Course.{Course, Done, Translate, Read, Part, Translation, Here, OnApic, Faults, Outside}
 use Rattle.svm_model.specs.Guest.{Vcpu}
 use Rattle.svm_model.specs.RegisterFile.{is_canonical, is_user}

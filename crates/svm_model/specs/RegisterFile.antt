@@ -1,5 +1,5 @@
 -- What the registers of a vcpu say (volume 2, 'System Resources').
-use Rattle.std.specs.Prelude.{ℕ, ◌/◌, ◌-◌, ◌^◌, nat_le, nat_lt, Bool, ◌||◌}
+use Rattle.std.specs.Prelude.{ℕ, ◌-◌, ◌^◌, nat_le, nat_lt, Bool, ◌||◌}
 use Rattle.svm_model.specs.Bits.{has}
 use Rattle.svm_model.specs.declared.page_tables.Paging.{Paging}
 use Rattle.svm_model.specs.declared.register_file.Registers.{Registers}

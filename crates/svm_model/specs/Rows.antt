@@ -1,5 +1,5 @@
 -- The instruction rows as a table of forms (volume 3, 'Instruction Overview'), and what bytes decode to.
-use Rattle.std.specs.Prelude.{◌≡◌, ◌≢◌, ℕ, ◌+◌, ◌<◌, ◌≤◌, ◌&&◌, ◌==◌, nat_le, nat_lt, List, [], ◌∷◌, ◌++◌, Bool, false, if◌then◌else◌, Option, Some, None, IsSome, length, take}
+use Rattle.std.specs.Prelude.{◌≡◌, ◌≢◌, ℕ, ◌<◌, ◌≤◌, ◌&&◌, ◌==◌, nat_le, nat_lt, List, [], ◌∷◌, ◌++◌, Bool, false, if◌then◌else◌, Option, Some, None, IsSome, length, take}
 use Rattle.svm_model.specs.declared.rows.Row.{Row as Instruction}
 use Rattle.svm_model.specs.declared.rows.Op.TheVariants.{Hlt}
 use Rattle.svm_model.specs.declared.rows.Form.TheVariants.{HltF4}

@@ -1,5 +1,5 @@
 -- The plain machine: a world of guests, and what each event makes of it. It walks from the root at each access.
-use Rattle.std.specs.Prelude.{◌≡◌, ℕ, ◌+◌, ◌*◌, ◌&&◌, ◌==◌, List, [], ◌∷◌, Bool, true, false, if◌then◌else◌, Option, Some, None, length, map, replicate, slice_get, slice_set, IfSome, ◌<◌}
+use Rattle.std.specs.Prelude.{◌≡◌, ℕ, ◌+◌, ◌*◌, ◌&&◌, ◌==◌, List, [], ◌∷◌, Bool, false, if◌then◌else◌, Option, Some, None, length, map, replicate, slice_get, slice_set, ◌<◌}
 use Rattle.svm_model.specs.Bytes.{put_at}
 use Rattle.svm_model.specs.Course.{Way, Direct, Told, Turned, play}
 use Rattle.svm_model.specs.Guest.{Guest, Vcpu}

@@ -26,7 +26,10 @@ pub enum Form {
 #[derive(Clone, Copy, Debug, PartialEq, Eq)]
 pub enum Operand {
     None,
-    Register { index: u8, high: bool },
+    Register {
+        index: u8,
+        high: bool,
+    },
     Memory {
         base: Option<u8>,
         index: Option<u8>,

@@ -1,0 +1,160 @@
+// One run of bytes that all guests share. A guest reads and writes in its window alone.
+ghost use Rattle.std.specs.Prelude.{◌≡◌, ℕ, ◌+◌, ◌*◌, ◌^◌, ◌<◌, ◌≤◌, ◌++◌, length, take, drop, replicate, max, IfOk, IfErr, MatchResult};
+ghost use Rattle.svm_model.specs.Bytes.{IsWithin, SameOutside, guest_of, bytes_at, put_at};
+
+use crate::steps::Steps;
+use std::alloc::{AllocError, Global};
+use std::marker::Model;
+use std::sync::ledger::Ledger;
+use svm_model::{GuestWindow, OutsideMemory};
+
+/// The bytes of all guests, 1 to 81920 pages of 4096 bytes.
+#[derive(Drop)]
+pub struct HostMemory {
+    bytes: Vec<u8>,
+}
+
+impl Model for HostMemory {
+    ghost use Rattle.svm_model.specs.Bytes.{Host};
+
+    ghost Value = { Host };
+
+    ghost view = { λ m. record { bytes = m.bytes.items } };
+}
+
+impl HostMemory {
+    /// That many pages of zeros.
+    pub fn new(alloc: Global, pages: u32) -> Result<HostMemory, AllocError>
+        requires some { 1 ≤ pages }
+        requires few { pages ≤ 81920 }
+        ensures { IfOk result (λ memory. memory.bytes ≡ replicate (4096 * pages) 0) }
+    {
+        let bytes = vec![in alloc; 0; 4096 * pages as usize]?;
+        Ok(HostMemory { bytes })
+    }
+
+    /// Reads bytes of the guest's memory, from a guest-physical address on, into the front of `into`. It is the only
+    /// way to learn a byte, and counts one whether or not the bytes are there. Where one of them is not, the answer
+    /// is the first such address, and `into` stays.
+    #[tactic(auto, using(svm_model::proofs::WindowLemmas::windows))]
+    pub fn read_guest<L: Ledger>(
+        &self,
+        window: GuestWindow,
+        address: u64,
+        length: u8,
+        into: &mut [u8; 16],
+        steps: &mut Steps<L>,
+    ) -> Result<(), OutsideMemory>
+        requires window { IsWithin window self.now.bytes }
+        requires some { 1 ≤ length }
+        requires few { length ≤ 16 }
+        ensures read { MatchResult (bytes_at (guest_of window self.now.bytes) address length)
+            (λ bytes. (result ≡ Ok tt) × (into.new ≡ bytes ++ drop length into.old))
+            (λ outside. (result ≡ Err outside) × (into.new ≡ into.old)) }
+        // The same, where the caller knows that the bytes are there.
+        ensures inside { address + length ≤ window.size → (result ≡ Ok tt)
+            × (take length into.new ≡ take length (drop address (guest_of window self.now.bytes))) }
+        ensures steps { steps.new ≡ steps.old + 1 }
+    {
+        steps.tick();
+        let bytes = self.bytes.as_slice();
+        let start = window.base as usize;
+        let end = start + window.size as usize;
+        read_bytes(&bytes[start..end], address, length, into)
+    }
+
+    /// Writes the front of `from` into the guest's memory, from a guest-physical address on. Where one of the bytes has
+    /// no place there, the answer is the first such address, and nothing is written.
+    #[tactic(auto, using(svm_model::proofs::WindowLemmas::windows))]
+    pub fn write_guest(
+        &mut self,
+        window: GuestWindow,
+        address: u64,
+        from: &[u8; 16],
+        length: u8,
+    ) -> Result<(), OutsideMemory>
+        requires window { IsWithin window self.old.bytes }
+        requires some { 1 ≤ length }
+        requires few { length ≤ 16 }
+        ensures write { MatchResult (bytes_at (guest_of window self.old.bytes) address length)
+            (λ _. (result ≡ Ok tt) × (guest_of window self.new.bytes ≡ put_at (guest_of window self.old.bytes) address (take length from.now)))
+            (λ outside. (result ≡ Err outside) × (self.new ≡ self.old)) }
+        // The same, where the caller knows that the bytes have their place.
+        ensures inside { address + length ≤ window.size → (result ≡ Ok tt)
+            × (guest_of window self.new.bytes ≡ put_at (guest_of window self.old.bytes) address (take length from.now)) }
+        ensures others { SameOutside window self.old.bytes self.new.bytes }
+    {
+        write_window(&mut self.bytes, window, address, from, length)
+    }
+}
+
+fn write_window(
+    bytes: &mut [u8],
+    window: GuestWindow,
+    address: u64,
+    from: &[u8; 16],
+    length: u8,
+) -> Result<(), OutsideMemory>
+    requires window { IsWithin window bytes.old }
+    requires some { 1 ≤ length }
+    requires few { length ≤ 16 }
+    ensures write { MatchResult (bytes_at (guest_of window bytes.old) address length)
+        (λ _. (result ≡ Ok tt) × (guest_of window bytes.new ≡ put_at (guest_of window bytes.old) address (take length from.now)))
+        (λ outside. (result ≡ Err outside) × (bytes.new ≡ bytes.old)) }
+    ensures others { SameOutside window bytes.old bytes.new }
+{
+    let start = window.base as usize;
+    let end = start + window.size as usize;
+    write_bytes(&mut bytes[start..end], address, from, length)
+}
+
+fn read_bytes(
+    guest: &[u8],
+    address: u64,
+    length: u8,
+    into: &mut [u8; 16],
+) -> Result<(), OutsideMemory>
+    requires some { 1 ≤ length }
+    requires few { length ≤ 16 }
+    ensures { MatchResult (bytes_at guest.now address length)
+        (λ bytes. (result ≡ Ok tt) × (into.new ≡ bytes ++ drop length into.old))
+        (λ outside. (result ≡ Err outside) × (into.new ≡ into.old)) }
+{
+    let at = place(guest, address, length)?;
+    let count = length as usize;
+    into[..count].copy_from_slice(&guest[at..at + count]);
+    Ok(())
+}
+
+fn write_bytes(
+    guest: &mut [u8],
+    address: u64,
+    from: &[u8; 16],
+    length: u8,
+) -> Result<(), OutsideMemory>
+    requires some { 1 ≤ length }
+    requires few { length ≤ 16 }
+    ensures { MatchResult (bytes_at guest.old address length)
+        (λ _. (result ≡ Ok tt) × (guest.new ≡ put_at guest.old address (take length from.now)))
+        (λ outside. (result ≡ Err outside) × (guest.new ≡ guest.old)) }
+{
+    let at = place(guest, address, length)?;
+    let count = length as usize;
+    guest[at..at + count].copy_from_slice(&from[..count]);
+    Ok(())
+}
+
+/// Where the bytes stand, if all of them are there.
+fn place(guest: &[u8], address: u64, count: u8) -> Result<usize, OutsideMemory>
+    ensures ok { IfOk result (λ at. (at ≡ address) × (at + count ≤ length guest.now)) }
+    ensures err { IfErr result (λ outside. (outside.address ≡ max address (length guest.now)) × (length guest.now < address + count)) }
+{
+    let size = guest.len() as u64;
+    if address <= size && count as u64 <= size - address {
+        Ok(address as usize)
+    } else {
+        Err(OutsideMemory {
+            address: address.max(size),
+        })
+    }
+}

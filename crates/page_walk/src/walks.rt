@@ -1,0 +1,104 @@
+// The walk: the path, the rights, and the bits that it sets.
+ghost use Rattle.std.specs.Prelude.{◌≡◌, ℕ, ◌+◌, ◌≤◌, List, All};
+ghost use Rattle.std.specs.Int.{w64, to_le_bytes};
+ghost use Rattle.svm_model.specs.Bytes.{IsWithin, SameOutside, guest_of, put_at};
+ghost use Rattle.svm_model.specs.Bits.{bits_where};
+ghost use Rattle.svm_model.specs.PageTables.{accessed, dirty, is_write, marked, HasFrame, walked};
+
+use crate::bits::EntryBits;
+use crate::entry::{bits_of, page_fault, writes};
+use crate::path::{is_allowed, is_new, leaf_at, path_to};
+use bitflags::Flags;
+use host_memory::{GuestWindow, HostMemory, Steps};
+use std::sync::ledger::Ledger;
+use svm_model::{Access, Entry, Paging, Walked};
+
+#[tactic(auto, using(svm_model::proofs::WindowLemmas::windows))]
+fn write_entry(memory: &mut HostMemory, window: GuestWindow, at: u64, bits: EntryBits)
+    requires window { IsWithin window memory.old.bytes }
+    requires inside { at + 8 ≤ window.size }
+    ensures written { guest_of window memory.new.bytes ≡ put_at (guest_of window memory.old.bytes) at (to_le_bytes w64 bits.0) }
+    ensures others { SameOutside window memory.old.bytes memory.new.bytes }
+{
+    let [a, b, c, d, e, f, g, h] = bits.bits().to_le_bytes();
+    let bytes = [a, b, c, d, e, f, g, h, 0, 0, 0, 0, 0, 0, 0, 0];
+    let _ = memory.write_guest(window, at, &bytes, 8);
+}
+
+/// The bits that the access sets in the leaf.
+fn leaf_marks(access: Access) -> EntryBits
+    ensures { result.0 ≡ accessed + bits_where (is_write access.kind) dirty }
+{
+    if writes(access) {
+        EntryBits::ACCESSED.union(EntryBits::DIRTY)
+    } else {
+        EntryBits::ACCESSED
+    }
+}
+
+/// Writes each entry of the path back as it was read, with the accessed bit, and in the leaf of a write with the dirty
+/// bit. Entries may stand at one place where a table maps itself; the leaf is written last, so it keeps the dirty bit.
+#[tactic(auto, using(svm_model::proofs::WindowLemmas::windows), unfolding(svm_model::specs::PageTables::marked))]
+fn mark(memory: &mut HostMemory, window: GuestWindow, access: Access, path: &[Entry])
+    requires window { IsWithin window memory.old.bytes }
+    requires inside { All (λ e. e.at + 8 ≤ window.size) path.now }
+    ensures marked { guest_of window memory.new.bytes ≡ marked access (guest_of window memory.old.bytes) path.now }
+    ensures others { SameOutside window memory.old.bytes memory.new.bytes }
+{
+    match path {
+        [] => {}
+        [leaf] => {
+            write_entry(
+                memory,
+                window,
+                leaf.at,
+                bits_of(leaf).union(leaf_marks(access)),
+            );
+        }
+        [entry, rest @ ..] => {
+            write_entry(
+                memory,
+                window,
+                entry.at,
+                bits_of(entry).union(EntryBits::ACCESSED),
+            );
+            mark(memory, window, access, rest);
+        }
+    }
+}
+
+/// Walks the tables of a guest for an access, and sets the accessed and dirty bits where the access is allowed (volume
+/// 2, 'Long-Mode Page Translation' and 'Page-Protection Checks').
+///
+/// The answer is the page's leaf; or a page fault with its error code; or `Ended`, where a table entry lies outside the
+/// guest's memory, with the first such address. A fault and an end change nothing. The frame of a leaf is below 2^28.
+#[tactic(auto, using(svm_model::proofs::WindowLemmas::windows), unfolding(svm_model::specs::PageTables::walked))]
+pub fn walk<L: Ledger>(
+    memory: &mut HostMemory,
+    window: GuestWindow,
+    paging: &Paging,
+    access: Access,
+    steps: &mut Steps<L>,
+) -> Walked
+    requires { IsWithin window memory.old.bytes }
+    ensures answer { result ≡ (walked (guest_of window memory.old.bytes) paging.now access).0 }
+    ensures memory { guest_of window memory.new.bytes ≡ (walked (guest_of window memory.old.bytes) paging.now access).1 }
+    ensures others { SameOutside window memory.old.bytes memory.new.bytes }
+    ensures frame { HasFrame result }
+    ensures steps { steps.new ≤ steps.old + 4 }
+    ensures later { steps.old ≤ steps.new }
+{
+    let path = match path_to(memory, window, paging, access, steps) {
+        Ok(path) => path,
+        Err(end) => return end,
+    };
+    let leaf = leaf_at(paging, access, &path);
+    if !is_allowed(paging, access, &leaf) {
+        return page_fault(true, false, paging, access);
+    }
+    let changed = is_new(access, &path);
+    if changed {
+        mark(memory, window, access, &path);
+    }
+    Walked::Leaf { leaf, changed }
+}

@@ -1,0 +1,16 @@
+use Rattle.std.proofs.Common.{◌∙◌, ap, slice_index_or}
+use Rattle.svm_model.specs.Image.{ImageGuest}
+use Rattle.svm_model.specs.World.{world_of, world_shape, is_offered}
+use Rattle.svm_model.proofs.WorldLemmas.{world_shape-world_of}
+use Rattle.plain_machine.proofs.Opening.{opened}
+use Rattle.plain_machine.proofs.machine.PlainMachine.open.Goals as goal
+
+pub returns-clause-world : goal.returns-clause-world
+returns-clause-world c =
+    let registers = c.index-registers.result.now in
+    opened _ c.index-guest.result.now registers _ (ap is_offered c.image.view_is ∙ c.requires.offered) c.index-guest.ensures
+    (c.index-registers.ensures ∙ ap (λ (k : ImageGuest). slice_index_or k.vcpus 0 registers) c.guest.view_is) c.in_ok-memory.ensures.memory
+    ∙ ap world_of c.image.view_is
+
+pub returns-clause-shape : goal.returns-clause-shape
+returns-clause-shape c = ap world_shape (returns-clause-world c) ∙ world_shape-world_of c.args.image.now

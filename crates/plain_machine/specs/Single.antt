@@ -1,0 +1,39 @@
+-- A world of one guest with one vcpu on one processor.
+use Rattle.std.specs.Prelude.{ℕ, List, [], ◌∷◌, Option, Some, None, slice_get}
+use Rattle.svm_model.specs.Guest.{Guest, Vcpu}
+use Rattle.svm_model.specs.World.{World}
+use Rattle.svm_model.specs.declared.names.Ended.{Ended}
+use Rattle.svm_model.specs.declared.names.GuestId.{GuestId}
+use Rattle.svm_model.specs.declared.names.VcpuId.{VcpuId}
+
+-- the vcpu
+abbrev pub first_id : VcpuId
+first_id = record { guest = record { 0 = 0 }; index = 0 }
+
+-- the world of its parts
+abbrev pub single_world : ℕ → ℕ → List ℕ → Option Ended → Vcpu → Option VcpuId → ℕ → World
+single_world version features memory ended vcpu placed event = record {
+  version = version;
+  features = features;
+  cpus = 1;
+  guests = record { memory = memory; ended = ended; vcpus = vcpu ∷ [] } ∷ [];
+  placing = placed ∷ [];
+  event = event;
+}
+
+-- the guest of that name
+abbrev pub guest_in : World → GuestId → Option Guest
+guest_in w id = slice_get w.guests id.0
+
+abbrev pub vcpu_of : Option Guest → ℕ → Option Vcpu
+vcpu_of None index = None
+vcpu_of (Some guest) index = slice_get guest.vcpus index
+
+-- the vcpu of that name
+abbrev pub vcpu_in : World → VcpuId → Option Vcpu
+vcpu_in w id = vcpu_of (guest_in w id.guest) id.index
+
+-- there is one of that name
+abbrev pub IsThere : {A : Type 0} → Option A → Type 0
+IsThere None = ⊥
+IsThere (Some x) = Unit {0}

@@ -1,0 +1,155 @@
+-- Each script that is read is lawful.
+use Rattle.std.proofs.Common.{◌≡◌, ℕ, ◌+◌, ◌≤◌, ◌<◌, cond, ltb, leb, ◌&&◌, Bool, true, false, List, [], ◌∷◌, ◌++◌, Option, Some, None, length, Result, Ok, Err, refl, subst, arith, codes}
+use Rattle.std.specs.Prelude.{IfOk, ⊤}
+use Rattle.std.specs.List.{list_all, slice_get}
+use Rattle.std.specs.Str.{bytes_eq}
+use Rattle.std.specs.Option.{option_to_list}
+use Rattle.std.proofs.lemmas.Result.{IfOk-weaker}
+use Rattle.std.proofs.lemmas.Bool.{ltb-true, leb-true, and_parts}
+use Rattle.svm_model.specs.Image.{Image}
+use Rattle.svm_model.specs.Script.{Script, ◌>>=◌, number_in, is_text, is_comment, words_of, lines_of, judged, vcpus_in, place_values, place_line, run_values, run_line, command, within_limit, said_by, said_in, said_of, at_line, count_of, event_limit, script_from, script_limit, script_of, IsLawfulLine, AreLawful, IsLawful, events_of}
+use Rattle.svm_model.specs.World.{Shape, image_shape}
+use Rattle.svm_model.specs.declared.formats.ScriptLine.{ScriptLine}
+use Rattle.svm_model.specs.declared.formats.ScriptReason.{ScriptReason}
+use Rattle.svm_model.specs.declared.formats.ScriptReason.TheVariants.{Bytes, Cpu, Vcpu, Count, Events}
+use Rattle.script_format.specs.declared.refusal.ScriptRefusal.{ScriptRefusal}
+use Rattle.script_format.specs.Reading.{GivesScript}
+use Rattle.script_format.proofs.Order.{all_counted}
+
+-- what a step gives has a property if what follows a good value always does
+then : {A B E : Type 0} (P : A → Type 0) (Q : B → Type 0) (r : Result A E) (f : A → Result B E) → IfOk r P → ((x : A) → P x → IfOk (f x) Q) → IfOk (r >>= f) Q
+then P Q (Ok x) f p q = q x p
+then P Q (Err e) f p q = tt
+
+-- a step whose value says nothing
+skip : {A B E : Type 0} (Q : B → Type 0) (r : Result A E) (f : A → Result B E) → ((x : A) → IfOk (f x) Q) → IfOk (r >>= f) Q
+skip Q (Ok x) f q = q x
+skip Q (Err e) f q = tt
+
+-- what passed a test
+passes : {A : Type 0} (reason : ScriptReason) (good : Bool) (x : A) (Q : A → Type 0) → (good ≡ true → Q x) → IfOk (judged reason good x) Q
+passes reason true x Q h = h refl
+passes reason false x Q h = tt
+
+either : {A E : Type 0} (test : Bool) (r s : Result A E) (Q : A → Type 0) → IfOk r Q → IfOk s Q → IfOk (cond test r s) Q
+either true r s Q h k = h
+either false r s Q h k = k
+
+-- a lawful line that begins at a number
+abbrev BeginsAt : Shape → ℕ → ScriptLine → Type 0
+BeginsAt shape first line = IsLawfulLine shape line × (line.first ≡ first)
+
+counted : (o : Option ℕ) → IfOk (vcpus_in o) (λ count. o ≡ Some count)
+counted None = tt
+counted (Some count) = refl
+
+place_is : (shape : Shape) (first cpu guest vcpu : ℕ) → IfOk (place_values shape first cpu guest vcpu) (BeginsAt shape first)
+place_is shape first cpu guest vcpu =
+    then (λ there. there < shape.cpus) (BeginsAt shape first) (judged Cpu (ltb cpu shape.cpus) cpu) _ (passes Cpu (ltb cpu shape.cpus) cpu (λ there. there < shape.cpus) (λ good. ltb-true cpu shape.cpus good)) (λ there a.
+    then (λ count. slice_get shape.vcpus guest ≡ Some count) (BeginsAt shape first) (vcpus_in (slice_get shape.vcpus guest)) _ (counted (slice_get shape.vcpus guest)) (λ count b.
+    then (λ index. index < count) (BeginsAt shape first) (judged Vcpu (ltb vcpu count) vcpu) _ (passes Vcpu (ltb vcpu count) vcpu (λ index. index < count) (λ good. ltb-true vcpu count good)) (λ index d.
+    (record { named = (a, (count, b, d)); some = omega arith; single = refl }, refl))))
+
+place_line_is : (shape : Shape) (first : ℕ) (words : List (List ℕ)) → IfOk (place_line shape first words) (BeginsAt shape first)
+unfolding place_line
+place_line_is shape first [] = tt
+place_line_is shape first (a ∷ []) = tt
+place_line_is shape first (a ∷ b ∷ []) = tt
+place_line_is shape first (cpu ∷ guest ∷ vcpu ∷ []) =
+    skip (BeginsAt shape first) (number_in cpu) _ (λ c.
+    skip (BeginsAt shape first) (number_in guest) _ (λ g.
+    skip (BeginsAt shape first) (number_in vcpu) _ (λ v.
+    place_is shape first c g v)))
+place_line_is shape first (a ∷ b ∷ c ∷ d ∷ words) = tt
+
+run_is : (shape : Shape) (first cpu count : ℕ) → IfOk (run_values shape first cpu count) (BeginsAt shape first)
+run_is shape first cpu count =
+    then (λ there. there < shape.cpus) (BeginsAt shape first) (judged Cpu (ltb cpu shape.cpus) cpu) _ (passes Cpu (ltb cpu shape.cpus) cpu (λ there. there < shape.cpus) (λ good. ltb-true cpu shape.cpus good)) (λ there a.
+    then (λ times. 1 ≤ times) (BeginsAt shape first) (judged Count (leb 1 count && leb count event_limit) count) _ (passes Count (leb 1 count && leb count event_limit) count (λ times. 1 ≤ times) (λ good. leb-true 1 count (and_parts (leb 1 count) (leb count event_limit) good).0)) (λ times b.
+    (record { named = a; some = omega arith; single = refl }, refl)))
+
+run_line_is : (shape : Shape) (first : ℕ) (words : List (List ℕ)) → IfOk (run_line shape first words) (BeginsAt shape first)
+unfolding run_line
+run_line_is shape first [] = tt
+run_line_is shape first (a ∷ []) = tt
+run_line_is shape first (cpu ∷ count ∷ []) =
+    skip (BeginsAt shape first) (number_in cpu) _ (λ c.
+    skip (BeginsAt shape first) (number_in count) _ (λ n.
+    run_is shape first c n))
+run_line_is shape first (a ∷ b ∷ c ∷ words) = tt
+
+command_is : (shape : Shape) (first : ℕ) (word : List ℕ) (words : List (List ℕ)) → IfOk (command shape first word words) (BeginsAt shape first)
+command_is shape first word words =
+    either (bytes_eq word (codes "place")) _ _ (BeginsAt shape first) (place_line_is shape first words)
+    (either (bytes_eq word (codes "run")) _ _ (BeginsAt shape first) (run_line_is shape first words) tt)
+
+-- what a line says is lawful, begins at the number, and does not go past the most events
+abbrev IsKept : Shape → ℕ → ScriptLine → Type 0
+IsKept shape first line = BeginsAt shape first line × (line.first + line.times ≤ 1048576)
+
+abbrev IsSaid : Shape → ℕ → Option ScriptLine → Type 0
+IsSaid shape first None = ⊤
+IsSaid shape first (Some line) = IsKept shape first line
+
+said_by_is : (shape : Shape) (first : ℕ) (line word : List ℕ) (words : List (List ℕ)) → IfOk (said_by shape first line word words) (IsSaid shape first)
+said_by_is shape first line word words =
+    skip (IsSaid shape first) (judged Bytes (list_all is_text line) line) _ (λ text.
+    then (BeginsAt shape first) (IsSaid shape first) (command shape first word words) _ (command_is shape first word words) (λ spoken a.
+    then (IsKept shape first) (IsSaid shape first) (within_limit spoken) _ (passes Events (leb (spoken.first + spoken.times) event_limit) spoken (IsKept shape first) (λ good. (a, leb-true (spoken.first + spoken.times) event_limit good))) (λ kept b.
+    b)))
+
+said_in_is : (shape : Shape) (first : ℕ) (line : List ℕ) (words : List (List ℕ)) → IfOk (said_in shape first line words) (IsSaid shape first)
+said_in_is shape first line [] = tt
+said_in_is shape first line (word ∷ words) =
+    either (is_comment word) (Ok None) (said_by shape first line word words) (IsSaid shape first) tt (said_by_is shape first line word words)
+
+said_of_is : (shape : Shape) (first : ℕ) (line : List ℕ) → IfOk (said_of shape first line) (IsSaid shape first)
+unfolding said_of
+said_of_is shape first line = said_in_is shape first line (words_of line)
+
+at_line_is : {A : Type 0} (line : ℕ) (r : Result A ScriptReason) (P : A → Type 0) → IfOk r P → IfOk (at_line line r) P
+at_line_is line (Ok x) P h = h
+at_line_is line (Err reason) P h = tt
+
+within : (shape : Shape) (first : ℕ) (said : Option ScriptLine) → first ≤ 1048576 → IsSaid shape first said → first + count_of said ≤ 1048576
+within shape first None few h = omega arith
+within shape first (Some line) few h = omega (arith, h.0.1, h.1)
+
+-- how many events there are behind a line
+pub few_behind : (shape : Shape) (line first : ℕ) (text : List ℕ) (said : Option ScriptLine) → first ≤ 1048576 → at_line line (said_of shape first text) ≡ Ok said → first + count_of said ≤ 1048576
+few_behind shape line first text said few h =
+    within shape first said few (rw h at (at_line_is line (said_of shape first text) (IsSaid shape first) (said_of_is shape first text)))
+
+abbrev IsLawfulFrom : Shape → ℕ → Script → Type 0
+IsLawfulFrom shape first script = AreLawful shape first script.lines script.events × (script.events ≤ 1048576)
+
+with_said : (shape : Shape) (first : ℕ) (said : Option ScriptLine) (rest : Script) → IsSaid shape first said → IsLawfulFrom shape (first + count_of said) rest
+    → IsLawfulFrom shape first (record { lines = option_to_list said ++ rest.lines; events = rest.events })
+with_said shape first None rest h k =
+    let same : first + 0 ≡ first = omega arith in
+    subst (λ n. IsLawfulFrom shape n rest) same k
+with_said shape first (Some line) rest h k = ((h.0.0, h.0.1, k.0), k.1)
+
+script_from_is : (shape : Shape) (line first : ℕ) (texts : List (List ℕ)) → first ≤ 1048576 → IfOk (script_from shape line first texts) (IsLawfulFrom shape first)
+unfolding script_from
+script_from_is shape line first [] few = (refl, few)
+script_from_is shape line first (text ∷ texts) few =
+    then (IsSaid shape first) (IsLawfulFrom shape first) (at_line line (said_of shape first text)) _ (at_line_is line (said_of shape first text) (IsSaid shape first) (said_of_is shape first text)) (λ said a.
+    then (IsLawfulFrom shape (first + count_of said)) (IsLawfulFrom shape first) (script_from shape (line + 1) (first + count_of said) texts) _ (script_from_is shape (line + 1) (first + count_of said) texts (within shape first said few a)) (λ rest b.
+    with_said shape first said rest a b))
+
+script_of-lawful : (bytes : List ℕ) (image : Image) → IfOk (script_of bytes image) (IsLawful (image_shape image))
+unfolding script_of
+script_of-lawful bytes image =
+    let shape : Shape = image_shape image in
+    either (ltb script_limit (length bytes)) _ (script_from shape 1 0 (lines_of bytes)) (IsLawful shape) tt
+    (IfOk-weaker (script_from shape 1 0 (lines_of bytes)) (IsLawfulFrom shape 0) (IsLawful shape) (λ script h. record { lines = h.0; few = h.1 }) (script_from_is shape 1 0 (lines_of bytes) (omega arith)))
+
+-- what the code answers is what the definition gives
+pub GivesScript-lawful : (bytes : List ℕ) (image : Image) (r : Result Script ScriptRefusal) → GivesScript r (script_of bytes image) → IfOk r (IsLawful (image_shape image))
+GivesScript-lawful bytes image (Ok script) given = rw given at (script_of-lawful bytes image)
+GivesScript-lawful bytes image (Err refusal) given = tt
+
+-- its events are all that it counts
+pub GivesScript-counted : (bytes : List ℕ) (image : Image) (r : Result Script ScriptRefusal) → GivesScript r (script_of bytes image) → IfOk r (λ script. length (events_of script) ≡ script.events)
+GivesScript-counted bytes image r given = IfOk-weaker r _ _ (λ script h. all_counted (image_shape image) script h) (GivesScript-lawful bytes image r given)

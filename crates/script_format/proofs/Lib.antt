@@ -1,0 +1,5 @@
+pub mod Digits
+pub mod Endings
+pub mod Lawful
+pub mod Order
+pub mod Whole

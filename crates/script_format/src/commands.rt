@@ -1,0 +1,167 @@
+// What a line says that is no comment.
+
+ghost use Rattle.std.specs.Prelude.{◌≡◌, ◌≤◌, ◌<◌, [], ◌∷◌, map, nat_lt, slice_get, IfOk};
+ghost use Rattle.svm_model.specs.Image.{IsLawfulImage};
+ghost use Rattle.svm_model.specs.Script.{command, judged, line_of, place_line, place_values, run_line, run_values, vcpus_in, within_limit};
+ghost use Rattle.svm_model.specs.World.{image_shape};
+
+use crate::numbers::number_in;
+use image_format::Image;
+use svm_model::{CpuId, Event, GuestId, ScriptLine, ScriptReason, VcpuId};
+
+// The most events of a line, and of a script.
+const EVENT_LIMIT: u32 = 1_048_576;
+
+// So many times the same event, from a number on.
+fn line_of(event: Event, first: u32, times: u32) -> ScriptLine
+    ensures { result ≡ line_of event first times }
+{
+    ScriptLine {
+        event,
+        first,
+        times,
+        each: false,
+    }
+}
+
+// A processor of the image.
+fn cpu_in(image: &Image, cpu: u64) -> Result<CpuId, ScriptReason>
+    ensures { result ≡ judged ScriptReason.Cpu (nat_lt cpu image.now.cpus) (record { 0 = cpu }) }
+{
+    if cpu >= image.cpus as u64 {
+        return Err(ScriptReason::Cpu);
+    }
+    Ok(CpuId(cpu as u8))
+}
+
+// The number of a guest's vcpus.
+fn vcpus_in(image: &Image, guest: u64) -> Result<u8, ScriptReason>
+    requires lawful { IsLawfulImage image.now }
+    ensures count { result ≡ vcpus_in (slice_get (image_shape image.now).vcpus guest) }
+    ensures few { IfOk result (λ count. (guest < 4) × (count ≤ 8)) }
+{
+    match image.guests.get(guest as usize) {
+        Some(guest) => Ok(guest.vcpus.len() as u8),
+        None => Err(ScriptReason::Guest),
+    }
+}
+
+// The values are looked at in their order.
+fn place_values(
+    image: &Image,
+    first: u32,
+    cpu: u64,
+    guest: u64,
+    vcpu: u64,
+) -> Result<ScriptLine, ScriptReason>
+    requires lawful { IsLawfulImage image.now }
+    ensures { result ≡ place_values (image_shape image.now) first cpu guest vcpu }
+{
+    let cpu = cpu_in(image, cpu)?;
+    let count = vcpus_in(image, guest)?;
+    if vcpu >= count as u64 {
+        return Err(ScriptReason::Vcpu);
+    }
+    let vcpu = VcpuId {
+        guest: GuestId(guest as u8),
+        index: vcpu as u8,
+    };
+    Ok(line_of(Event::Place { cpu, vcpu }, first, 1))
+}
+
+// All are numbers before the value of any is looked at.
+#[tactic(auto, unfolding(svm_model::specs::Script::place_line))]
+fn place_words(
+    image: &Image,
+    first: u32,
+    cpu: &[u8],
+    guest: &[u8],
+    vcpu: &[u8],
+) -> Result<ScriptLine, ScriptReason>
+    requires lawful { IsLawfulImage image.now }
+    ensures { result ≡ place_line (image_shape image.now) first (cpu.now ∷ guest.now ∷ vcpu.now ∷ []) }
+{
+    let cpu = number_in(cpu)?;
+    let guest = number_in(guest)?;
+    let vcpu = number_in(vcpu)?;
+    place_values(image, first, cpu, guest, vcpu)
+}
+
+// The words behind `place`: a processor, a guest and a vcpu of it.
+#[tactic(auto, unfolding(svm_model::specs::Script::place_line))]
+fn place_line(image: &Image, first: u32, words: &[&[u8]]) -> Result<ScriptLine, ScriptReason>
+    requires lawful { IsLawfulImage image.now }
+    ensures { result ≡ place_line (image_shape image.now) first (map (λ w. w.now) words.now) }
+{
+    let [cpu, guest, vcpu] = words else {
+        return Err(ScriptReason::Words);
+    };
+    place_words(image, first, cpu, guest, vcpu)
+}
+
+// The processor is looked at before the count.
+fn run_values(image: &Image, first: u32, cpu: u64, count: u64) -> Result<ScriptLine, ScriptReason>
+    ensures { result ≡ run_values (image_shape image.now) first cpu count }
+{
+    let cpu = cpu_in(image, cpu)?;
+    if count < 1 || count > EVENT_LIMIT as u64 {
+        return Err(ScriptReason::Count);
+    }
+    Ok(line_of(Event::Run { cpu }, first, count as u32))
+}
+
+// Both are numbers before the value of any is looked at.
+#[tactic(auto, unfolding(svm_model::specs::Script::run_line))]
+fn run_words(
+    image: &Image,
+    first: u32,
+    cpu: &[u8],
+    count: &[u8],
+) -> Result<ScriptLine, ScriptReason>
+    ensures { result ≡ run_line (image_shape image.now) first (cpu.now ∷ count.now ∷ []) }
+{
+    let cpu = number_in(cpu)?;
+    let count = number_in(count)?;
+    run_values(image, first, cpu, count)
+}
+
+// The words behind `run`: a processor, and how often.
+#[tactic(auto, unfolding(svm_model::specs::Script::run_line))]
+fn run_line(image: &Image, first: u32, words: &[&[u8]]) -> Result<ScriptLine, ScriptReason>
+    ensures { result ≡ run_line (image_shape image.now) first (map (λ w. w.now) words.now) }
+{
+    let [cpu, count] = words else {
+        return Err(ScriptReason::Words);
+    };
+    run_words(image, first, cpu, count)
+}
+
+/// What the words behind a first word say, where so many events come before the line.
+pub fn command(
+    image: &Image,
+    first: u32,
+    word: &[u8],
+    words: &[&[u8]],
+) -> Result<ScriptLine, ScriptReason>
+    requires lawful { IsLawfulImage image.now }
+    ensures { result ≡ command (image_shape image.now) first word.now (map (λ w. w.now) words.now) }
+{
+    if word == b"place".as_slice() {
+        place_line(image, first, words)
+    } else if word == b"run".as_slice() {
+        run_line(image, first, words)
+    } else {
+        Err(ScriptReason::Word)
+    }
+}
+
+/// The line, where it does not go past the most events.
+pub fn within_limit(line: ScriptLine) -> Result<ScriptLine, ScriptReason>
+    ensures { result ≡ within_limit line }
+{
+    let end = line.first as u64 + line.times as u64;
+    if end > EVENT_LIMIT as u64 {
+        return Err(ScriptReason::Events);
+    }
+    Ok(line)
+}

@@ -1,0 +1,39 @@
+// A script: its lines and its events.
+
+ghost use Rattle.std.specs.Prelude.{◌≡◌, ◌≤◌, ◌↔◌, slice_get, IfSome, IsNone};
+ghost use Rattle.svm_model.specs.Script.{IsLawful, events_of};
+ghost use Rattle.svm_model.specs.World.{Shape, IsNamed};
+ghost use Rattle.script_format.specs.Order.{IsScriptFor};
+
+use crate::events::event_in;
+use std::marker::Model;
+use svm_model::{Event, ScriptLine};
+
+/// A script: its lines in order, without those that say nothing, and the number of its events, at most 1,048,576. In a
+/// clause it is svm_model's record of that name, with the list of the lines.
+#[derive(Drop)]
+pub struct Script {
+    pub lines: Vec<ScriptLine>,
+    pub events: u32,
+}
+
+impl Model for Script {
+    ghost use Rattle.svm_model.specs.Script.{Script as ScriptRecord};
+
+    ghost Value = { ScriptRecord };
+
+    ghost view = { λ s. record { lines = s.lines.items; events = s.events } };
+}
+
+impl Script {
+    /// The event of a number, counted from 0, of a script for an image of so many processors; `None` past the last one.
+    /// The line is found by halving.
+    pub fn event_at(&self, number: u32, cpus: u8) -> Option<Event>
+        requires lawful { IsScriptFor cpus self.now }
+        ensures event { result ≡ slice_get (events_of self.now) number }
+        ensures past { IsNone result ↔ (self.now.events ≤ number) }
+        ensures named { (shape : Shape) → IsLawful shape self.now → IfSome result (IsNamed shape) }
+    {
+        event_in(&self.lines, self.events, number)
+    }
+}

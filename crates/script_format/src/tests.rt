@@ -1,0 +1,211 @@
+ghost use Rattle.std.specs.Prelude.{IfOk};
+ghost use Rattle.svm_model.specs.Image.{IsLawfulImage};
+
+use super::*;
+use image_format::{Image, parse_image};
+use std::alloc::Global;
+use std::test::*;
+use svm_model::{CpuId, Event, GuestId, VcpuId};
+
+// An image of so many processors, with a guest of one page for each number of vcpus.
+fn image_of(alloc: Global, cpus: u8, guests: &[u8]) -> Result<Image, Fail>
+    ensures { IfOk result IsLawfulImage }
+{
+    let count = u8::try_from(guests.len())?;
+    let mut bytes = Vec::from_slice(alloc, b"SVMIMAGE\x01\x00")?;
+    bytes.extend_from_slice(&[count, cpus, 0, 0, 0, 0])?;
+    for vcpus in guests {
+        bytes.extend_from_slice(&[*vcpus, 0, 0, 0, 1, 0, 0, 0, 0, 0, 0, 0, 0, 0, 0, 0])?;
+        for _ in 0..*vcpus {
+            // All is 0 but bit 1 of RFLAGS.
+            bytes.extend_from_slice(&[0; 24])?;
+            bytes.push(2)?;
+            bytes.extend_from_slice(&[0; 39])?;
+        }
+    }
+    Ok(parse_image(alloc, &bytes)?)
+}
+
+// Scripts for an image of one processor and one vcpu: how many lines say something, and how many events they are.
+#[rattlefmt::skip]
+const SCRIPTS: [(&[u8], usize, u32); 16] = [
+    (b"place 0 0 0\nrun 0 1\n", 2, 2),
+    (b"place 0 0 0\r\nrun 0 1\r\n", 2, 2),
+    (b"place 0 0 0\nrun 0 7", 2, 8),
+    (b"\t place \t0  0\t\t0 \n", 1, 1),
+    (b"", 0, 0),
+    (b"\n\n\r\n \t\n", 0, 0),
+    // A comment has any bytes.
+    (b"#\n#run 0 1\n \t#\xff\x00 \x7f\r\r\nrun 0 2\n", 1, 2),
+    (b"run 0 5 \n#", 1, 5),
+    (b"#\r", 0, 0),
+    (b"run 0x0 0x10\n", 1, 16),
+    (b"run 0x00000000000000000000 0x00000000000000000001\n", 1, 1),
+    (b"run 0 0xaF\nrun 0 0xAf\n", 2, 350),
+    (b"run 0 10\nrun 0 99", 2, 109),
+    (b"run 0 1048576\n", 1, 1_048_576),
+    (b"run 0 1048575\nplace 0 0 0", 2, 1_048_576),
+    (b"run 0 0x100000\n# no more", 1, 1_048_576),
+];
+
+#[test]
+fn scripts_are_read(rt: HostRuntime) -> Result<(), Fail> {
+    let image = image_of(rt.alloc(), 1, &[1])?;
+    for (bytes, lines, events) in &SCRIPTS {
+        let script = parse_script(rt.alloc(), bytes, &image)?;
+        assert_eq!(rt; (script.lines.len(), script.events), (*lines, *events));
+    }
+    Ok(())
+}
+
+// Scripts that are refused for the same image: the line, and the reason.
+#[rattlefmt::skip]
+const REFUSED: [(&[u8], u32, ScriptReason); 54] = [
+    (b"run 0 1\r", 1, ScriptReason::Bytes),
+    (b"run 0 1\r\r\n", 1, ScriptReason::Bytes),
+    (b"run 0\r 1\n", 1, ScriptReason::Bytes),
+    (b"\x01\n", 1, ScriptReason::Bytes),
+    (b"run 0 1\n\n\xff \n", 3, ScriptReason::Bytes),
+    (b"place 0 0 0 # \x7f\n", 1, ScriptReason::Bytes),
+    (b"plaze \x80\n", 1, ScriptReason::Bytes),
+    (b"plaze 0 0 0\n", 1, ScriptReason::Word),
+    (b"plac 0 0 0\n", 1, ScriptReason::Word),
+    (b"places 0 0 0\n", 1, ScriptReason::Word),
+    (b"Run 0 1\n", 1, ScriptReason::Word),
+    (b"run# 0 1\n", 1, ScriptReason::Word),
+    (b"place\n", 1, ScriptReason::Words),
+    (b"place 0 0\n", 1, ScriptReason::Words),
+    (b"place 0 0 0 0\n", 1, ScriptReason::Words),
+    (b"place 0 0 0 #\n", 1, ScriptReason::Words),
+    (b"place x\n", 1, ScriptReason::Words),
+    (b"run 0\n", 1, ScriptReason::Words),
+    (b"run 0 1 1\n", 1, ScriptReason::Words),
+    (b"place x 0 0\n", 1, ScriptReason::Number),
+    (b"place 0 x 0\n", 1, ScriptReason::Number),
+    (b"place 0 0 x\n", 1, ScriptReason::Number),
+    (b"place 00 0 0\n", 1, ScriptReason::Number),
+    (b"place 01 0 0\n", 1, ScriptReason::Number),
+    (b"place 0x 0 0\n", 1, ScriptReason::Number),
+    (b"place 0X1 0 0\n", 1, ScriptReason::Number),
+    (b"place 0xg 0 0\n", 1, ScriptReason::Number),
+    (b"place 1a 0 0\n", 1, ScriptReason::Number),
+    (b"place +1 0 0\n", 1, ScriptReason::Number),
+    (b"place -1 0 0\n", 1, ScriptReason::Number),
+    // 2 ^ 64 and one less.
+    (b"place 18446744073709551616 0 0\n", 1, ScriptReason::Number),
+    (b"place 18446744073709551615 0 0\n", 1, ScriptReason::Cpu),
+    (b"place 0x10000000000000000 0 0\n", 1, ScriptReason::Number),
+    (b"place 0xffffffffffffffff 0 0\n", 1, ScriptReason::Cpu),
+    (b"place 0x000000000000000001 0 0\n", 1, ScriptReason::Cpu),
+    // A number is told before a value, and the values in their order.
+    (b"place 1 1 x\n", 1, ScriptReason::Number),
+    (b"run 1 x\n", 1, ScriptReason::Number),
+    (b"place 1 1 8\n", 1, ScriptReason::Cpu),
+    (b"place 0 1 8\n", 1, ScriptReason::Guest),
+    (b"place 0 256 0\n", 1, ScriptReason::Guest),
+    (b"place 0 0 8\n", 1, ScriptReason::Vcpu),
+    (b"place 0 0 256\n", 1, ScriptReason::Vcpu),
+    (b"place 256 0 0\n", 1, ScriptReason::Cpu),
+    (b"run 1 0\n", 1, ScriptReason::Cpu),
+    (b"run 0 0\n", 1, ScriptReason::Count),
+    (b"run 0 1048577\n", 1, ScriptReason::Count),
+    (b"run 0 4294967297\n", 1, ScriptReason::Count),
+    // The number of events comes last.
+    (b"run 0 1048576\nrun 0 1048577\n", 2, ScriptReason::Count),
+    (b"run 0 1048576\nrun 1 1\n", 2, ScriptReason::Cpu),
+    (b"run 0 1048576\nrun 0 1048576\n", 2, ScriptReason::Events),
+    (b"run 0 1048576\n\n\nplace 0 0 0\n", 4, ScriptReason::Events),
+    // The first line counts.
+    (b"run 0 1\nplaze\nplace\n", 2, ScriptReason::Word),
+    (b"\r\n# a\n\nplace\nplaze\n", 4, ScriptReason::Words),
+    (b"run 0 1048576\nrun 0 1\nplaze\n", 2, ScriptReason::Events),
+];
+
+#[test]
+fn lines_are_refused(rt: HostRuntime) -> Result<(), Fail> {
+    let image = image_of(rt.alloc(), 1, &[1])?;
+    for (bytes, line, reason) in &REFUSED {
+        let refusal = ScriptRefusal::Bad {
+            line: *line,
+            reason: *reason,
+        };
+        assert_eq!(rt;
+            parse_script(rt.alloc(), bytes, &image).err(),
+            Some(refusal)
+        );
+    }
+    Ok(())
+}
+
+#[test]
+fn names_are_those_of_the_image(rt: HostRuntime) -> Result<(), Fail> {
+    let image = image_of(rt.alloc(), 2, &[1, 3])?;
+    let script = parse_script(rt.alloc(), b"place 1 1 2", &image)?;
+    assert_eq!(rt; script.events, 1);
+    let no_vcpu = parse_script(rt.alloc(), b"place 1 0 1", &image).err();
+    let no_guest = parse_script(rt.alloc(), b"place 1 2 0", &image).err();
+    for (refusal, reason) in [
+        (no_vcpu, ScriptReason::Vcpu),
+        (no_guest, ScriptReason::Guest),
+    ] {
+        assert_eq!(rt; refusal, Some(ScriptRefusal::Bad { line: 1, reason }));
+    }
+    Ok(())
+}
+
+#[test]
+fn too_long_is_told_first(rt: HostRuntime) -> Result<(), Fail> {
+    let image = image_of(rt.alloc(), 1, &[1])?;
+    let mut bytes = vec![in rt.alloc(); b'#'; 1_048_576]?;
+    let script = parse_script(rt.alloc(), &bytes, &image)?;
+    assert_eq!(rt; script.events, 0);
+    bytes.push(b'#')?;
+    let long = ScriptRefusal::Bad {
+        line: 0,
+        reason: ScriptReason::TooLong,
+    };
+    assert_eq!(rt; parse_script(rt.alloc(), &bytes, &image).err(), Some(long));
+    Ok(())
+}
+
+#[test]
+fn events_by_number(rt: HostRuntime) -> Result<(), Fail> {
+    let image = image_of(rt.alloc(), 3, &[1])?;
+    let bytes = b"run 0 1\nrun 1 3\n\nrun 2 2\n#\nplace 1 0 0\nrun 1 1\n";
+    let script = parse_script(rt.alloc(), bytes, &image)?;
+    let run = |cpu| Some(Event::Run { cpu: CpuId(cpu) });
+    let place = Some(Event::Place {
+        cpu: CpuId(1),
+        vcpu: VcpuId {
+            guest: GuestId(0),
+            index: 0,
+        },
+    });
+    let events = [
+        run(0),
+        run(1),
+        run(1),
+        run(1),
+        run(2),
+        run(2),
+        place,
+        run(1),
+        None,
+    ];
+    for number in 0..9 {
+        assert_eq!(rt; script.event_at(number as u32, image.cpus), events[number]);
+    }
+    assert_eq!(rt; script.event_at(u32::MAX, image.cpus), None);
+    Ok(())
+}
+
+#[test]
+fn refusals_as_text(rt: HostRuntime) -> Result<(), Fail> {
+    let refusal = ScriptRefusal::Bad {
+        line: 17,
+        reason: ScriptReason::Guest,
+    };
+    let text = format!(in rt.alloc(); "{refusal}, {}", ScriptRefusal::NoMemory)?;
+    assert_eq!(rt; text.as_str(), "line 17: Guest, no memory");
+    Ok(())
+}

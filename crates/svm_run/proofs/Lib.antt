@@ -1,0 +1,4 @@
+pub mod Events
+pub mod Received
+pub mod Reports
+pub mod Runs

@@ -1,0 +1,133 @@
+// Reads the image and the script.
+ghost use Rattle.std.specs.Prelude.{◌≡◌, ◌≤◌, true, length, IfOk, IfErr, IfSome};
+ghost use Rattle.svm_model.specs.Image.{IsLawfulImage, image_of};
+ghost use Rattle.svm_model.specs.Script.{IsLawful, events_of, script_of};
+ghost use Rattle.svm_model.specs.World.{image_shape, is_offered as offered_test, is_offered_guest, is_offered_vcpu};
+ghost use Rattle.svm_run.specs.Outcome.{image_in, image_said, script_in, script_said, Gives, HasReadCause, IsInputOrMemory};
+
+use crate::status::{InputFault, OutsideFault, Status};
+use byte_shelf::{ReadAll, Shelf, read_all};
+use image_format::{GuestImage, Image, ImageReason, ImageRefusal, parse_image};
+use script_format::{Script, ScriptReason, ScriptRefusal, parse_script};
+use std::alloc::Global;
+use vm_names::Registers;
+
+const IMAGE_LIMIT: u32 = 67_108_864;
+
+const SCRIPT_LIMIT: u32 = 1_048_576;
+
+fn are_offered_vcpus(vcpus: &[Registers]) -> bool
+    ensures { result ≡ is_offered_vcpu vcpus.now }
+{
+    match vcpus {
+        [registers] => registers.idtr.limit == 0,
+        _ => false,
+    }
+}
+
+fn are_offered_guests(guests: &[GuestImage]) -> bool
+    ensures { result ≡ is_offered_guest guests.now }
+{
+    match guests {
+        [guest] => are_offered_vcpus(&guest.vcpus),
+        _ => false,
+    }
+}
+
+/// Whether the machine can run the image: one processor, and one guest with one vcpu whose interrupt table is empty.
+fn is_offered(image: &Image) -> bool
+    ensures { result ≡ offered_test image.now }
+{
+    image.cpus == 1 && are_offered_guests(&image.guests)
+}
+
+fn image_fault(place: u32, reason: ImageReason) -> Status
+    ensures { result ≡ Status.Input (InputFault.Image place reason) }
+{
+    Status::Input(InputFault::Image { place, reason })
+}
+
+/// The image that the bytes are, where the machine can run it.
+pub fn accept_image(alloc: Global, bytes: &[u8]) -> Result<Image, Status>
+    ensures exact { Gives (λ image. image) result (image_said (image_of bytes.now)) }
+    ensures lawful { IfOk result IsLawfulImage }
+    ensures offered { IfOk result (λ image. offered_test image ≡ true) }
+    ensures cause { IfErr result IsInputOrMemory }
+{
+    let image = match parse_image(alloc, bytes) {
+        Ok(image) => image,
+        Err(ImageRefusal::Bad { place, reason }) => return Err(image_fault(place, reason)),
+        Err(ImageRefusal::NoMemory) => return Err(Status::NoMemory),
+    };
+    if !is_offered(&image) {
+        return Err(image_fault(0, ImageReason::Count));
+    }
+    Ok(image)
+}
+
+/// Reads an image from a shelf.
+#[tactic(auto, unfolding(crate::specs::Outcome::image_in))]
+pub fn open_image<H: Shelf>(alloc: Global, shelf: &mut H, name: &str) -> Result<Image, Status>
+    ensures exact { IfSome (H.files shelf.old) (λ _. Gives (λ image. image) result (image_in (H.files shelf.old) name.now)) }
+    ensures lawful { IfOk result IsLawfulImage }
+    ensures offered { IfOk result (λ image. offered_test image ≡ true) }
+    ensures cause { IfErr result (HasReadCause (H.faults shelf.old) (H.faults shelf.new)) }
+    ensures files { H.files shelf.new ≡ H.files shelf.old }
+    ensures later { H.faults shelf.old ≤ H.faults shelf.new }
+{
+    let bytes = match read_all(alloc, shelf, name, IMAGE_LIMIT) {
+        Ok(bytes) => bytes,
+        Err(ReadAll::Missing) => return Err(Status::Input(InputFault::Missing { script: false })),
+        Err(ReadAll::TooLong) => return Err(image_fault(IMAGE_LIMIT, ImageReason::TooLong)),
+        Err(ReadAll::Failed) => return Err(Status::OutsideFault(OutsideFault::Read)),
+        Err(ReadAll::NoMemory) => return Err(Status::NoMemory),
+    };
+    accept_image(alloc, &bytes)
+}
+
+fn script_fault(line: u32, reason: ScriptReason) -> Status
+    ensures { result ≡ Status.Input (InputFault.Script line reason) }
+{
+    Status::Input(InputFault::Script { line, reason })
+}
+
+/// The script that the bytes are for an image.
+fn accept_script(alloc: Global, bytes: &[u8], image: &Image) -> Result<Script, Status>
+    requires { IsLawfulImage image.now }
+    ensures exact { Gives (λ script. script) result (script_said (script_of bytes.now image.now)) }
+    ensures lawful { IfOk result (IsLawful (image_shape image.now)) }
+    ensures count { IfOk result (λ script. length (events_of script) ≡ script.events) }
+    ensures cause { IfErr result IsInputOrMemory }
+{
+    match parse_script(alloc, bytes, image) {
+        Ok(script) => Ok(script),
+        Err(ScriptRefusal::Bad { line, reason }) => Err(script_fault(line, reason)),
+        Err(ScriptRefusal::NoMemory) => Err(Status::NoMemory),
+    }
+}
+
+/// Reads a script for an image from a shelf.
+#[tactic(auto, unfolding(crate::specs::Outcome::script_in))]
+pub fn open_script<H: Shelf>(
+    alloc: Global,
+    shelf: &mut H,
+    name: &str,
+    image: &Image,
+) -> Result<Script, Status>
+    requires { IsLawfulImage image.now }
+    ensures exact { IfSome (H.files shelf.old) (λ _. Gives (λ script. script) result (script_in image.now (H.files shelf.old) name.now)) }
+    ensures lawful { IfOk result (IsLawful (image_shape image.now)) }
+    ensures count { IfOk result (λ script. length (events_of script) ≡ script.events) }
+    ensures cause { IfErr result (HasReadCause (H.faults shelf.old) (H.faults shelf.new)) }
+    ensures files { H.files shelf.new ≡ H.files shelf.old }
+    ensures later { H.faults shelf.old ≤ H.faults shelf.new }
+{
+    let bytes = match read_all(alloc, shelf, name, SCRIPT_LIMIT) {
+        Ok(bytes) => bytes,
+        Err(ReadAll::Missing) => return Err(Status::Input(InputFault::Missing { script: true })),
+        Err(ReadAll::TooLong) => return Err(script_fault(0, ScriptReason::TooLong)),
+        Err(ReadAll::Failed) => return Err(Status::OutsideFault(OutsideFault::Read)),
+        Err(ReadAll::NoMemory) => return Err(Status::NoMemory),
+    };
+    accept_script(alloc, &bytes, image)
+}

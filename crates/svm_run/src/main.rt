@@ -1,0 +1,98 @@
+//! Runs AMD64 guests under a schedule and prints what became of them.
+//!
+//! `svm_run run IMAGE SCRIPT` reads an image and a script, runs the script's events on the plain machine, and prints the
+//! report. The job itself is `svm_run` in `top.rt`, over any shelf of files and any sink of bytes: its contract compares
+//! every answer and every printed byte with one definition, `outcome_of` in `specs/Outcome.antt`. `main` makes the real
+//! files, the real output and the counters, calls it, and ends with the status's exit code.
+#![tactic(auto)]
+
+ghost use Rattle.std.specs.Prelude.{◌≡◌, ◌<◌};
+
+mod inputs;
+mod report;
+mod running;
+mod status;
+mod status_line;
+mod top;
+mod words;
+
+use byte_shelf::{FileShelf, StdSink};
+use host_memory::counted_from;
+use status::Status;
+use std::alloc::{AllocError, Global};
+use std::env;
+use std::io::ErrorKind;
+use std::marker::Brand;
+use std::process::ExitCode;
+use std::sync::ledger::{Blank, Ledger};
+use top::svm_run;
+
+fn main(rt: HostRuntime) -> ExitCode {
+    ExitCode::from(start(rt).code())
+}
+
+/// Takes the words. One that is not text is none of the words that the program knows.
+fn start(rt: HostRuntime) -> Status {
+    let args = match env::args(&rt) {
+        Ok(args) => args,
+        Err(error) if error.kind() == ErrorKind::OutOfMemory => return Status::NoMemory,
+        Err(_) => return Status::Words,
+    };
+    let Ok(words) = args.skip(1).collect(rt.alloc()) else {
+        return Status::NoMemory;
+    };
+    run_words(rt, words)
+}
+
+/// Makes the real objects, and runs.
+fn run_words(rt: HostRuntime, words: Vec<String>) -> Status {
+    match open(&rt, &words) {
+        Ok(status) => status,
+        Err(AllocError) => Status::NoMemory,
+    }
+}
+
+fn open(rt: &HostRuntime, words: &Vec<String>) -> Result<Status, AllocError> {
+    let words: Vec<&str> = words.iter().map(|w| w.as_str()).collect(rt.alloc())?;
+    let shelf = FileShelf::new(rt.clone()?);
+    let sink = StdSink::new(rt.clone()?);
+    Ok(run::<Brand, Brand>(
+        rt.alloc(),
+        &words,
+        shelf,
+        sink,
+        Blank::new(1),
+        Blank::new(1),
+    ))
+}
+
+/// Makes the counters of reads and of entries, and does the job.
+fn run<L: Ledger, M: Ledger>(
+    alloc: Global,
+    words: &[&str],
+    mut shelf: FileShelf<HostRuntime>,
+    mut sink: StdSink<HostRuntime>,
+    reads: Blank,
+    entries: Blank,
+) -> Status
+    requires reads { reads.name ≡ L.name }
+    requires read_parts { reads.parts ≡ L.parts }
+    requires read_some { 0 < reads.parts }
+    requires entries { entries.name ≡ M.name }
+    requires entry_parts { entries.parts ≡ M.parts }
+    requires entry_some { 0 < entries.parts }
+{
+    let mut steps = counted_from::<L>(reads);
+    let mut entries = counted_from::<M>(entries);
+    svm_run(
+        alloc,
+        words,
+        &mut shelf,
+        &mut sink,
+        &mut steps,
+        &mut entries,
+    )
+}
+
+#[cfg(test)]
+mod tests;

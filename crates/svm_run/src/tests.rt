@@ -1,0 +1,332 @@
+// Jobs over a shelf and a sink in memory, some of whose calls fail. The texts are worked out by hand from the formats.
+ghost use Rattle.std.specs.Prelude.{◌≡◌, ◌<◌, true, length};
+ghost use Rattle.svm_model.specs.Image.{IsLawfulImage};
+ghost use Rattle.svm_model.specs.World.{is_offered, single, world_shape};
+
+use crate::inputs::accept_image;
+use crate::status::{InputFault, OutsideFault, Status};
+use crate::top::svm_run;
+use byte_shelf::{MemoryShelf, MemorySink};
+use host_memory::{Steps, counted_from};
+use image_format::{Image, ImageReason};
+use plain_machine::PlainMachine;
+use script_format::ScriptReason;
+use std::alloc::{AllocError, Global};
+use std::marker::Brand;
+use std::process::Abort;
+use std::sync::ledger::{Blank, Ledger};
+use std::test::Fail;
+use vm_names::{CpuId, Event, GuestId, NoMemory, VcpuId};
+
+/// The header of an image and of its guest: 16 pages, one vcpu, five segments.
+const HEADER: [u8; 32] = [
+    0x53, 0x56, 0x4d, 0x49, 0x4d, 0x41, 0x47, 0x45, 1, 0, 1, 1, 0, 0, 0, 0, //
+    1, 0, 0, 0, 16, 0, 0, 0, 5, 0, 0, 0, 0, 0, 0, 0,
+];
+
+fn push_segment(image: &mut Vec<u8>, address: u16, bytes: &[u8]) -> Result<(), AllocError>
+    requires { length bytes.now < 256 }
+{
+    let [low, high] = address.to_le_bytes();
+    image.extend_from_slice(&[low, high, 0, 0, 0, 0, 0, 0])?;
+    image.extend_from_slice(&[bytes.len() as u8, 0, 0, 0, 0, 0, 0, 0])?;
+    image.extend_from_slice(bytes)
+}
+
+/// A job: its words, the vcpu's RIP and the code there, the table entry of linear page 6, the script, and the calls of
+/// the shelf and the sink that fail. Linear page 5 is mapped to frame 5.
+#[derive(Clone, Copy)]
+struct Job<'a> {
+    words: &'a [&'a str],
+    rip: u16,
+    code: &'a [u8],
+    entry: u32,
+    script: &'a str,
+    shelf_fails: Option<u64>,
+    sink_fails: Option<u64>,
+}
+
+/// The image of a job.
+fn image_of(alloc: Global, job: Job<'_>) -> Result<Vec<u8>, AllocError>
+    requires { length job.code.now < 256 }
+{
+    let mut image = Vec::from_slice(alloc, &HEADER)?;
+    let mut vcpu = [0; 64];
+    let [low, high] = job.rip.to_le_bytes();
+    vcpu[1] = 0x10;
+    vcpu[8] = low;
+    vcpu[9] = high;
+    vcpu[24] = 2;
+    image.extend_from_slice(&vcpu)?;
+    let [a, b, c, d] = job.entry.to_le_bytes();
+    push_segment(&mut image, 0x1000, &[7, 0x20, 0, 0, 0, 0, 0, 0])?;
+    push_segment(&mut image, 0x2000, &[7, 0x30, 0, 0, 0, 0, 0, 0])?;
+    push_segment(&mut image, 0x3000, &[7, 0x40, 0, 0, 0, 0, 0, 0])?;
+    let entries = [7, 0x50, 0, 0, 0, 0, 0, 0, a, b, c, d, 0, 0, 0, 0];
+    push_segment(&mut image, 0x4028, &entries)?;
+    push_segment(&mut image, job.rip, job.code)?;
+    Ok(image)
+}
+
+const RUN: [&str; 3] = ["run", "one.img", "one.script"];
+
+const HALT: Job<'static> = Job {
+    words: &RUN,
+    rip: 0x5000,
+    code: &[0xf4],
+    entry: 0x6007,
+    script: "place 0 0 0\nrun 0 1\n",
+    shelf_fails: None,
+    sink_fails: None,
+};
+
+fn calls(alloc: Global, call: Option<u64>) -> Result<Vec<u64>, AllocError> {
+    let mut calls = Vec::new(alloc);
+    if let Some(call) = call {
+        calls.push(call)?;
+    }
+    Ok(calls)
+}
+
+fn shelf_of(alloc: Global, job: Job<'_>) -> Result<MemoryShelf, AllocError>
+    requires { length job.code.now < 256 }
+{
+    let image = image_of(alloc, job)?;
+    let script = Vec::from_slice(alloc, job.script.as_bytes())?;
+    let image_name = String::from_str(alloc, "one.img")?;
+    let script_name = String::from_str(alloc, "one.script")?;
+    let names = vec![in alloc; image_name, script_name]?;
+    let files = vec![in alloc; image, script]?;
+    Ok(MemoryShelf::new(names, files, calls(alloc, job.shelf_fails)?))
+}
+
+/// The status of a job, and what the sink has received.
+fn done<L: Ledger, M: Ledger>(
+    alloc: Global,
+    job: Job<'_>,
+    reads: Blank,
+    entries: Blank,
+) -> Result<(Status, MemorySink), AllocError>
+    requires code { length job.code.now < 256 }
+    requires reads { reads.name ≡ L.name }
+    requires read_parts { reads.parts ≡ L.parts }
+    requires read_some { 0 < reads.parts }
+    requires entries { entries.name ≡ M.name }
+    requires entry_parts { entries.parts ≡ M.parts }
+    requires entry_some { 0 < entries.parts }
+{
+    let mut shelf = shelf_of(alloc, job)?;
+    let mut sink = MemorySink::new(alloc, calls(alloc, job.sink_fails)?);
+    let mut steps = counted_from::<L>(reads);
+    let mut entries = counted_from::<M>(entries);
+    let status = svm_run(
+        alloc,
+        job.words,
+        &mut shelf,
+        &mut sink,
+        &mut steps,
+        &mut entries,
+    );
+    Ok((status, sink))
+}
+
+const RIGHT: &str =
+    "events 2\nguest 0 live\nvcpu 0.0 l1 halted rip=5001 rfl=2 cr0=80010033 cr3=1000 cr4=a0 efer=d00\n";
+
+#[test]
+fn jobs_end_as_the_formats_say(rt: HostRuntime) -> Result<(), Fail> {
+    let table = [
+        (HALT, Status::Done, RIGHT),
+        (
+            Job {
+                words: &["walk", "a", "b"],
+                ..HALT
+            },
+            Status::Words,
+            "refused words\n",
+        ),
+        (
+            Job {
+                words: &["run", "-", "b"],
+                ..HALT
+            },
+            Status::Words,
+            "refused words\n",
+        ),
+        (
+            Job {
+                words: &["run", "no.img", "one.script"],
+                ..HALT
+            },
+            Status::Input(InputFault::Missing { script: false }),
+            "refused missing image\n",
+        ),
+        (
+            Job {
+                words: &["run", "one.img", "no.script"],
+                ..HALT
+            },
+            Status::Input(InputFault::Missing { script: true }),
+            "refused missing script\n",
+        ),
+        (
+            Job {
+                words: &["run", "one.script", "one.script"],
+                ..HALT
+            },
+            Status::Input(InputFault::Image {
+                place: 0,
+                reason: ImageReason::Magic,
+            }),
+            "refused image place=0 reason=Magic\n",
+        ),
+        (
+            Job {
+                script: "place 0 0 0\nplace 0 0 8\n",
+                ..HALT
+            },
+            Status::Input(InputFault::Script {
+                line: 2,
+                reason: ScriptReason::Vcpu,
+            }),
+            "refused script line=2 reason=Vcpu\n",
+        ),
+        (
+            Job {
+                shelf_fails: Some(1),
+                ..HALT
+            },
+            Status::OutsideFault(OutsideFault::Read),
+            "fault read\n",
+        ),
+        (
+            Job {
+                sink_fails: Some(0),
+                ..HALT
+            },
+            Status::OutsideFault(OutsideFault::Write),
+            "",
+        ),
+        (
+            Job {
+                code: &[0x0f, 0xff],
+                ..HALT
+            },
+            Status::LeftProfile,
+            "events 2\nguest 0 ended Unlisted value=f vcpu=0 event=1\nvcpu 0.0 l1 ready rip=5000 rfl=2 cr0=80010033 cr3=1000 cr4=a0 efer=d00\n",
+        ),
+        (
+            Job {
+                rip: 0x5fff,
+                code: &[0x48, 0xf4],
+                ..HALT
+            },
+            Status::Done,
+            "events 2\nguest 0 live\nvcpu 0.0 l1 halted rip=6001 rfl=2 cr0=80010033 cr3=1000 cr4=a0 efer=d00\n",
+        ),
+        (
+            Job {
+                rip: 0x5fff,
+                entry: 0,
+                ..HALT
+            },
+            Status::Done,
+            "events 2\nguest 0 live\nvcpu 0.0 l1 halted rip=6000 rfl=2 cr0=80010033 cr3=1000 cr4=a0 efer=d00\n",
+        ),
+        (
+            Job {
+                rip: 0x5fff,
+                code: &[0x48, 0xf4],
+                entry: 0,
+                ..HALT
+            },
+            Status::LeftProfile,
+            "events 2\nguest 0 ended Shutdown value=0 vcpu=0 event=1\nvcpu 0.0 l1 ready rip=5fff rfl=2 cr0=80010033 cr3=1000 cr4=a0 efer=d00\n",
+        ),
+        (
+            Job {
+                rip: 0x5fff,
+                code: &[0x48, 0xf4],
+                entry: 0xfee0_0007,
+                ..HALT
+            },
+            Status::LeftProfile,
+            "events 2\nguest 0 ended ApicAccess value=0 vcpu=0 event=1\nvcpu 0.0 l1 ready rip=5fff rfl=2 cr0=80010033 cr3=1000 cr4=a0 efer=d00\n",
+        ),
+        (
+            Job {
+                rip: 0x6004,
+                entry: 0x2_0007,
+                ..HALT
+            },
+            Status::LeftProfile,
+            "events 2\nguest 0 ended OutsideMemory value=20004 vcpu=0 event=1\nvcpu 0.0 l1 ready rip=6004 rfl=2 cr0=80010033 cr3=1000 cr4=a0 efer=d00\n",
+        ),
+    ];
+    for (job, status, text) in table {
+        let code = job.code;
+        assert!(rt; code.len() < 256);
+        let (found, sink) = done::<Brand, Brand>(rt.alloc(), job, Blank::new(1), Blank::new(1))?;
+        assert!(rt; found == status, "{found:?}");
+        assert!(rt; sink.bytes() == text.as_bytes(), "{text}");
+    }
+    Ok(())
+}
+
+const VCPU: VcpuId = VcpuId {
+    guest: GuestId(0),
+    index: 0,
+};
+
+/// The vcpu is placed and takes a turn.
+fn take_a_turn<L: Ledger>(rt: &impl Abort, machine: &mut PlainMachine, steps: &mut Steps<L>)
+    requires shape { world_shape machine.old ≡ single }
+    requires first { machine.old.event ≡ 0 }
+    ensures { world_shape machine.new ≡ single }
+{
+    let cpu = CpuId(0);
+    machine.event(Event::Place { cpu, vcpu: VCPU }, steps);
+    let effect = machine.event(Event::Run { cpu }, steps);
+    assert!(rt; effect.vcpu == Some(VCPU) && effect.ended.is_none());
+}
+
+/// The vcpu has halted, and the entry that its fetch used has its accessed bit.
+fn has_halted<L: Ledger>(rt: &impl Abort, machine: &PlainMachine, steps: &mut Steps<L>)
+    requires { world_shape machine.now ≡ single }
+{
+    assert!(rt; machine.is_halted(VCPU));
+    assert!(rt; machine.level(VCPU) == 1);
+    assert!(rt; machine.registers(VCPU).rip == 0x5001);
+    assert!(rt; machine.memory_byte(GuestId(0), 0x4028, steps) == Ok(0x27));
+    assert!(rt; machine.memory_byte(GuestId(0), 0x1_0000, steps).is_err());
+}
+
+#[tactic(auto, using(svm_model::proofs::WorldLemmas::worlds))]
+fn looked_at<L: Ledger>(
+    rt: &impl Abort,
+    alloc: Global,
+    image: &Image,
+    reads: Blank,
+) -> Result<(), NoMemory>
+    requires lawful { IsLawfulImage image.now }
+    requires offered { is_offered image.now ≡ true }
+    requires reads { reads.name ≡ L.name }
+    requires parts { reads.parts ≡ L.parts }
+    requires some { 0 < reads.parts }
+{
+    let mut steps = counted_from::<L>(reads);
+    let mut machine = PlainMachine::open(alloc, image)?;
+    take_a_turn(rt, &mut machine, &mut steps);
+    has_halted(rt, &machine, &mut steps);
+    Ok(())
+}
+
+#[test]
+fn a_machine_shows_its_vcpu(rt: HostRuntime) -> Result<(), Fail> {
+    let bytes = image_of(rt.alloc(), HALT)?;
+    let Ok(image) = accept_image(rt.alloc(), &bytes) else {
+        return Err(Fail::from(NoMemory));
+    };
+    looked_at::<Brand>(&rt, rt.alloc(), &image, Blank::new(1))?;
+    Ok(())
+}
