@@ -51,7 +51,7 @@ const NOTHING: Effect = Effect {
 };
 
 impl PlainMachine {
-    /// A turn of the vcpu.
+    /// A turn of the vcpu. A halted one does nothing, and so does one whose guest was ended.
     #[tactic(auto, using(svm_model::proofs::WindowLemmas::windows), unfolding(svm_model::specs::World::turned))]
     fn turn<L: Ledger>(&mut self, steps: &mut Steps<L>) -> Option<Ended>
         ensures world { self.new ≡ (plain_turn self.old first_id).world }
@@ -131,8 +131,9 @@ impl PlainMachine {
         }
     }
 
-    /// Does one event of the schedule (volume 2, 'Virtual Machine Running' has the turns of a guest; placing and scheduling
-    /// are the schedule's). Ten reads at most are counted. An end, once it came, stays.
+    /// Does one event of the schedule: places a vcpu, or lets the placed vcpu take one turn. The turn of a guest that was
+    /// ended does nothing, so an end stays. At most ten reads are counted. The event names what the image has, and fewer
+    /// than 1,048,576 events came before it.
     #[tactic(auto, unfolding(svm_model::specs::World::plain_event))]
     pub fn event<L: Ledger>(&mut self, event: Event, steps: &mut Steps<L>) -> Effect
         requires named { IsNamed (world_shape self.old) event }

@@ -171,12 +171,9 @@ abbrev pub IsNamed : Shape → Event → Type 0
 IsNamed shape (Place cpu id) = (cpu.0 < shape.cpus) × IsVcpu shape id
 IsNamed shape (Run cpu) = cpu.0 < shape.cpus
 
--- Worlds that the machine runs: one processor, and one guest with one vcpu.
+-- What the machine runs: one processor, and one guest with one vcpu.
 abbrev pub single : Shape
 single = record { cpus = 1; vcpus = 1 ∷ [] }
-
-abbrev pub IsSingle : World → Type 0
-IsSingle w = world_shape w ≡ single
 
 -- the image has one processor, and one guest with one vcpu whose interrupt table is empty
 abbrev pub is_offered_vcpu : List Registers → Bool
