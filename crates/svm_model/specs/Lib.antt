@@ -1,4 +1,5 @@
 pub mod Bits
+pub mod Bus
 pub mod Bytes
 pub mod Course
 pub mod Guest

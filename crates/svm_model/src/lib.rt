@@ -9,6 +9,7 @@
 mod formats;
 mod names;
 mod page_tables;
+mod ports;
 mod register_file;
 mod rows;
 mod traps;
@@ -17,9 +18,11 @@ mod windows;
 
 pub use formats::{ImageReason, ScriptLine, ScriptReason};
 pub use names::{
-    Access, CpuId, Effect, End, Ended, Event, Frame, GuestId, Kind, LinearPage, NoMemory, VcpuId,
+    Access, CpuId, Effect, End, Ended, Event, Frame, GuestId, Kind, LinearPage, NoMemory, RunEnd,
+    VcpuId,
 };
 pub use page_tables::{Entry, Leaf, PageSize, Paging, Pass, Walked};
+pub use ports::PortWrite;
 pub use register_file::{Registers, Segment};
 pub use rows::{Decoded, Form, Op, Operand, Row, Width};
 pub use traps::{Cause, Trap};

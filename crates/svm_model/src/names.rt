@@ -82,3 +82,10 @@ pub struct Effect {
 /// There is no memory left for what was asked.
 #[derive(Clone, Copy, Debug, PartialEq, Eq)]
 pub struct NoMemory;
+
+/// Why a run ends at once: a device failed, or there is no memory left.
+#[derive(Clone, Copy, Debug, PartialEq, Eq)]
+pub enum RunEnd {
+    Device { device: u8 },
+    NoMemory,
+}

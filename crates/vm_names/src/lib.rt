@@ -10,5 +10,5 @@ mod control_bits;
 pub use control_bits::{Cr0Bits, Cr4Bits, EferBits};
 pub use svm_model::{
     Access, Cause, CpuId, Effect, End, Ended, Event, Frame, GuestId, Kind, LinearPage, NoMemory,
-    Registers, Segment, Trap, VcpuId,
+    Registers, RunEnd, Segment, Trap, VcpuId,
 };
