@@ -93,10 +93,12 @@ fn shelf_of(alloc: Global, job: Job<'_>) -> Result<MemoryShelf, AllocError>
 {
     let image = image_of(alloc, job)?;
     let script = Vec::from_slice(alloc, job.script.as_bytes())?;
+    let short = Vec::from_slice(alloc, &HEADER[..15])?;
     let image_name = String::from_str(alloc, "one.img")?;
+    let short_name = String::from_str(alloc, "short.img")?;
     let script_name = String::from_str(alloc, "one.script")?;
-    let names = vec![in alloc; image_name, script_name]?;
-    let files = vec![in alloc; image, script]?;
+    let names = vec![in alloc; image_name, short_name, script_name]?;
+    let files = vec![in alloc; image, short, script]?;
     Ok(MemoryShelf::new(names, files, calls(alloc, job.shelf_fails)?))
 }
 
@@ -179,6 +181,17 @@ fn jobs_end_as_the_formats_say(rt: HostRuntime) -> Result<(), Fail> {
                 reason: ImageReason::Magic,
             }),
             "refused image place=0 reason=Magic\n",
+        ),
+        (
+            Job {
+                words: &["run", "short.img", "one.script"],
+                ..HALT
+            },
+            Status::Input(InputFault::Image {
+                place: 15,
+                reason: ImageReason::Short,
+            }),
+            "refused image place=15 reason=Short\n",
         ),
         (
             Job {

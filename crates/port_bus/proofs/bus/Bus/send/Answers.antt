@@ -15,7 +15,7 @@ returns-in-Err-clause-later g c =
 pub returns-in-Err-clause-cause : goal.returns-in-Err-clause-cause
 returns-in-Err-clause-cause g c =
     let within : c.from.result < length c.args.self.now.places.items = omega (arith, c.from.ensures, c.if-port-ge256.false, c.args.self.now.sixteen) in
-    rw (c.run_end.ensures, ← c.from.ensures) (one_cause _ _ _ _ _ _ within c.index_mut-place.ensures.value (λ failed. c.write.ensures.failed (rw (c.in-Err.is, failed) refl)))
+    rw (c.run_end.ensures, ← c.from.ensures) (one_cause _ _ _ _ _ c.in-Err.refusal within c.index_mut-place.ensures.value (λ failed. c.write.ensures.failed (rw (c.in-Err.is, failed) refl)))
 
 pub returns-clause-sent : goal.returns-clause-sent
 returns-clause-sent g c =
