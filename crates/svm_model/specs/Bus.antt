@@ -19,6 +19,10 @@ pub record Bus : Type 0 where
   pub devices : List (Option Device)
   pub output : List PortWrite
 
+-- how many places there are
+abbrev pub device_count : ℕ
+device_count = 16
+
 -- the device of a place, where one is plugged
 abbrev pub plugged_at : Option (Option Device) → Option Device
 plugged_at None = None

@@ -2,6 +2,7 @@
 -- pages go by the number of their translation, so a course sees words and never a frame: it is the same course over a
 -- guest's memory and over host memory. `play` gives it its meaning, and tells what was done.
 use Rattle.std.specs.Prelude.{ℕ, ◌+◌, ◌*◌, ◌/◌, ◌%◌, ◌==◌, nat_lt, List, [], ◌∷◌, ◌++◌, Bool, if◌then◌else◌, length, take, drop, slice_index}
+use Rattle.svm_model.specs.Bus.{Bus, device_of, value_read, bus_after_read, bus_after_write}
 use Rattle.svm_model.specs.Guest.{Vcpu}
 use Rattle.svm_model.specs.PageTables.{walked}
 use Rattle.svm_model.specs.declared.names.Access.{Access}
@@ -10,6 +11,7 @@ use Rattle.svm_model.specs.declared.page_tables.Paging.{Paging}
 use Rattle.svm_model.specs.declared.page_tables.Pass.{Pass}
 use Rattle.svm_model.specs.declared.page_tables.Walked.{Walked}
 use Rattle.svm_model.specs.declared.page_tables.Walked.TheVariants.{Leaf, PageFault, Ended}
+use Rattle.svm_model.specs.declared.ports.PortWrite.{PortWrite}
 use Rattle.svm_model.specs.declared.turns.Stepped.{Stepped}
 use Rattle.svm_model.specs.declared.turns.Translated.{Translated}
 use Rattle.svm_model.specs.declared.turns.Translated.TheVariants.{Here as InMemory, OnApic as AtApic, Faults as Unmapped, Outside as Beyond}
@@ -35,15 +37,22 @@ pub data Course : Type 0 where
   Translate : (part : Part) (next : Translation → Course) → Course
   -- so many bytes are read in the page of a translation, from the offset of this linear address on
   Read : (index address count : ℕ) (next : List ℕ → Course) → Course
+  -- a port is read, by so many bytes
+  In : (port width : ℕ) (next : ℕ → Course) → Course
+  -- a port is written to; the course learns whether the bus takes it
+  Out : (write : PortWrite) (next : Bool → Course) → Course
 
 -- How a turn's accesses are translated. Without nested paging a physical address is one of the guest's memory.
 pub data Outer : Type 0 where
   Direct : Outer
 
+-- How a turn's accesses are translated, and whether the bus takes what the turn writes to a port. It always does in the
+-- runs that are defined here; a turn that is cut off is one whose write the bus refused.
 pub record Way : Type 0 where
   pub asid : ℕ
   pub outer : Outer
   pub paging : Paging
+  pub taken : Bool
 
 -- the walk of an access, and memory after it
 abbrev pub walked_over : Outer → List ℕ → Paging → Access → Walked × List ℕ
@@ -60,13 +69,14 @@ pub data Told : Type 0 where
 -- what playing a course gives
 pub record Turned : Type 0 where
   pub memory : List ℕ
+  pub bus : Bus
   pub vcpu : Vcpu
   pub stepped : Stepped
   pub told : List Told
 
 -- what comes after a thing that was told of
 abbrev pub after : Told → Turned → Turned
-after told turned = record { memory = turned.memory; vcpu = turned.vcpu; stepped = turned.stepped; told = told ∷ turned.told }
+after told turned = record { memory = turned.memory; bus = turned.bus; vcpu = turned.vcpu; stepped = turned.stepped; told = told ∷ turned.told }
 
 abbrev pub access_of : Part → Access
 access_of part = record { page = record { 0 = part.address / 4096 }; kind = part.kind; user = part.user }
@@ -106,10 +116,17 @@ translating way memory part here stops =
     let walk = walked_over way.outer memory way.paging access in
     after (Accessed way.asid access walk.0 (passed_over way.outer memory way.paging access)) (on_translated (translated part walk.0 walk.1) walk.1 here stops)
 
--- the meaning of a course over memory, with the frames of the parts translated so far
-abbrev pub play : Way → List ℕ → List ℕ → Course → Turned
-play way memory frames (Done vcpu stepped) = record { memory = memory; vcpu = vcpu; stepped = stepped; told = [] }
-play way memory frames (Translate part next) =
-    translating way memory part (λ frame m. play way m (frames ++ frame ∷ []) (next Here)) (λ stop m. play way m frames (next stop))
-play way memory frames (Read index address count next) =
-    play way memory frames (next (take count (drop (place_in (slice_index frames index) address) memory)))
+-- the bus after a write to a port, where it takes it
+abbrev pub bus_after_out : Bool → Bus → PortWrite → Bus
+bus_after_out taken bus write = if taken then bus_after_write bus write else bus
+
+-- the meaning of a course over a bus and memory, with the frames of the parts translated so far
+abbrev pub play : Way → Bus → List ℕ → List ℕ → Course → Turned
+play way bus memory frames (Done vcpu stepped) = record { memory = memory; bus = bus; vcpu = vcpu; stepped = stepped; told = [] }
+play way bus memory frames (Translate part next) =
+    translating way memory part (λ frame m. play way bus m (frames ++ frame ∷ []) (next Here)) (λ stop m. play way bus m frames (next stop))
+play way bus memory frames (Read index address count next) =
+    play way bus memory frames (next (take count (drop (place_in (slice_index frames index) address) memory)))
+play way bus memory frames (In port width next) =
+    play way (bus_after_read bus port) memory frames (next (value_read (device_of bus port) width))
+play way bus memory frames (Out write next) = play way (bus_after_out way.taken bus write) memory frames (next way.taken)

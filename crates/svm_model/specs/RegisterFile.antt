@@ -1,5 +1,5 @@
 -- What the registers of a vcpu say (volume 2, 'System Resources').
-use Rattle.std.specs.Prelude.{ℕ, ◌-◌, ◌^◌, nat_le, nat_lt, Bool, ◌||◌}
+use Rattle.std.specs.Prelude.{ℕ, ◌+◌, ◌-◌, ◌*◌, ◌/◌, ◌%◌, ◌^◌, nat_le, nat_lt, Bool, ◌||◌, slice_index, slice_set}
 use Rattle.svm_model.specs.Bits.{has}
 use Rattle.svm_model.specs.declared.page_tables.Paging.{Paging}
 use Rattle.svm_model.specs.declared.register_file.Registers.{Registers}
@@ -32,3 +32,15 @@ paging_of r = record {
 -- accesses at privilege level 3 are those of a user
 abbrev pub is_user : Registers → Bool
 is_user r = nat_le 3 r.cpl
+
+-- the I/O privilege level, bits 13:12 of RFLAGS
+abbrev pub io_privilege : Registers → ℕ
+io_privilege r = r.rflags / 2 ^ 12 % 4
+
+-- AL, bits 7:0 of RAX
+abbrev pub al : Registers → ℕ
+al r = slice_index r.general 0 % 256
+
+-- a write of AL leaves the other bits of RAX
+abbrev pub with_al : Registers → ℕ → Registers
+with_al r value = record r { general = slice_set r.general 0 (256 * (slice_index r.general 0 / 256) + value) }

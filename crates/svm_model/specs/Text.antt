@@ -2,6 +2,7 @@
 use Rattle.std.specs.Prelude.{ℕ, ◌+◌, ◌==◌, List, [], ◌∷◌, ◌++◌, Bool, false, if◌then◌else◌, Option, Some, None, codes, slice_index}
 use Rattle.std.specs.List.{flat_map}
 use Rattle.std.specs.Fmt.{decimal, digits}
+use Rattle.svm_model.specs.Bus.{Bus}
 use Rattle.svm_model.specs.Guest.{Guest, Vcpu}
 use Rattle.svm_model.specs.World.{World}
 use Rattle.svm_model.specs.declared.formats.ImageReason.{ImageReason}
@@ -11,6 +12,7 @@ use Rattle.svm_model.specs.declared.formats.ScriptReason.TheVariants as script_r
 use Rattle.svm_model.specs.declared.names.End.{End}
 use Rattle.svm_model.specs.declared.names.End.TheVariants.{Unlisted, OutsideMemory, ApicAccess, Mode, Shutdown}
 use Rattle.svm_model.specs.declared.names.Ended.{Ended}
+use Rattle.svm_model.specs.declared.ports.PortWrite.{PortWrite}
 use Rattle.svm_model.specs.declared.register_file.Registers.{Registers}
 
 -- one text after another
@@ -100,13 +102,27 @@ abbrev pub vcpu_lines : ℕ → ℕ → List Vcpu → List ℕ
 vcpu_lines guest index [] = []
 vcpu_lines guest index (vcpu ∷ vcpus) = vcpu_line guest index 1 vcpu.halted vcpu.registers ⧺ vcpu_lines guest (index + 1) vcpus
 
-abbrev pub guest_lines : ℕ → List Guest → List ℕ
-guest_lines number [] = []
-guest_lines number (guest ∷ guests) = guest_line number guest.ended ⧺ vcpu_lines number 0 guest.vcpus ⧺ guest_lines (number + 1) guests
+-- a write to a port, with its width in bytes
+unfoldable pub out_line : PortWrite → List ℕ
+out_line w =
+    codes "out " ⧺ decimal w.vcpu.guest.0 ⧺ codes "." ⧺ decimal w.vcpu.index ⧺ codes " event=" ⧺ decimal w.event
+    ⧺ codes " port=" ⧺ hex w.port ⧺ codes " width=" ⧺ decimal w.width ⧺ codes " value=" ⧺ hex w.value ⧺ newline
 
--- the report of a run, from the world that it leads to
-unfoldable pub report : World → List ℕ
-report w = events_line w.event ⧺ guest_lines 0 w.guests
+-- the writes of a guest, in order
+abbrev pub guest_out_line : ℕ → PortWrite → List ℕ
+guest_out_line guest w = if w.vcpu.guest.0 == guest then out_line w else []
+
+unfoldable pub out_lines : ℕ → List PortWrite → List ℕ
+out_lines guest output = flat_map (guest_out_line guest) output
+
+abbrev pub guest_lines : List PortWrite → ℕ → List Guest → List ℕ
+guest_lines output number [] = []
+guest_lines output number (guest ∷ guests) =
+    guest_line number guest.ended ⧺ vcpu_lines number 0 guest.vcpus ⧺ out_lines number output ⧺ guest_lines output (number + 1) guests
+
+-- the report of a run, from the world and the bus that it leads to
+unfoldable pub report : World → Bus → List ℕ
+report w bus = events_line w.event ⧺ guest_lines bus.output 0 w.guests
 
 -- Refusals.
 

@@ -1,5 +1,7 @@
--- The plain machine: a world of guests, and what each event makes of it. It walks from the root at each access.
-use Rattle.std.specs.Prelude.{◌≡◌, ℕ, ◌+◌, ◌*◌, ◌&&◌, ◌==◌, List, [], ◌∷◌, Bool, false, if◌then◌else◌, Option, Some, None, length, map, replicate, slice_get, slice_set, ◌<◌}
+-- The plain machine: a world of guests beside the bus of their port devices, and what each event makes of both. It walks
+-- from the root at each access.
+use Rattle.std.specs.Prelude.{◌≡◌, ℕ, ◌+◌, ◌*◌, ◌&&◌, ◌==◌, List, [], ◌∷◌, Bool, true, false, if◌then◌else◌, Option, Some, None, length, map, replicate, slice_get, slice_set, ◌<◌}
+use Rattle.svm_model.specs.Bus.{Bus, device_count, bus_after_feed, bus_after_unplug}
 use Rattle.svm_model.specs.Bytes.{put_at}
 use Rattle.svm_model.specs.Course.{Way, Direct, Told, Turned, play}
 use Rattle.svm_model.specs.Guest.{Guest, Vcpu}
@@ -10,9 +12,10 @@ use Rattle.svm_model.specs.declared.names.CpuId.{CpuId}
 use Rattle.svm_model.specs.declared.names.Effect.{Effect}
 use Rattle.svm_model.specs.declared.names.Ended.{Ended}
 use Rattle.svm_model.specs.declared.names.Event.{Event}
-use Rattle.svm_model.specs.declared.names.Event.TheVariants.{Place, Run}
+use Rattle.svm_model.specs.declared.names.Event.TheVariants.{Place, Run, Feed, Unplug}
 use Rattle.svm_model.specs.declared.names.VcpuId.{VcpuId}
 use Rattle.svm_model.specs.declared.register_file.Registers.{Registers}
+use Rattle.svm_model.specs.declared.turns.Facts.{Facts}
 use Rattle.svm_model.specs.declared.turns.Stepped.{Stepped}
 use Rattle.svm_model.specs.declared.turns.Stepped.TheVariants.{Went, Ends}
 
@@ -53,20 +56,22 @@ world_of image = record {
 
 -- A vcpu's turn.
 
-abbrev pub way_of : Registers → Way
-way_of registers = record { asid = 0; outer = Direct; paging = paging_of registers }
+abbrev pub way_of : Registers → Bool → Way
+way_of registers taken = record { asid = 0; outer = Direct; paging = paging_of registers; taken = taken }
 
 -- nothing is done
-abbrev pub idle : List ℕ → Vcpu → Turned
-idle memory vcpu = record { memory = memory; vcpu = vcpu; stepped = Went; told = [] }
+abbrev pub idle : Bus → List ℕ → Vcpu → Turned
+idle bus memory vcpu = record { memory = memory; bus = bus; vcpu = vcpu; stepped = Went; told = [] }
 
 -- the first work of a vcpu that is due: nothing where it is halted, else an instruction
-unfoldable pub turned : List ℕ → Vcpu → Turned
-turned memory vcpu = if vcpu.halted then idle memory vcpu else play (way_of vcpu.registers) memory [] (instruction vcpu)
+unfoldable pub turned : Bool → Facts → Bus → List ℕ → Vcpu → Turned
+turned taken facts bus memory vcpu =
+    if vcpu.halted then idle bus memory vcpu else play (way_of vcpu.registers taken) bus memory [] (instruction facts vcpu)
 
--- what a turn makes of the world: the end that came in it, and what it tells
+-- what a turn makes of the world and the bus: the end that came in it, and what it tells
 pub record Turn : Type 0 where
   pub world : World
+  pub bus : Bus
   pub ended : Option Ended
   pub told : List Told
 
@@ -81,37 +86,46 @@ guest_after guest index event turn = record {
   vcpus = slice_set guest.vcpus index turn.vcpu;
 }
 
-abbrev pub no_turn : World → Turn
-no_turn w = record { world = w; ended = None; told = [] }
+abbrev pub no_turn : World → Bus → Turn
+no_turn w bus = record { world = w; bus = bus; ended = None; told = [] }
 
 abbrev pub turn_done : World → Guest → VcpuId → Turned → Turn
 turn_done w guest id turn = record {
   world = record w { guests = slice_set w.guests id.guest.0 (guest_after guest id.index w.event turn) };
+  bus = turn.bus;
   ended = end_by id.index w.event turn.stepped;
   told = turn.told;
 }
 
-abbrev pub with_vcpu : World → Guest → VcpuId → Option Vcpu → Turn
-with_vcpu w guest id None = no_turn w
-with_vcpu w guest id (Some vcpu) = turn_done w guest id (turned guest.memory vcpu)
+abbrev pub facts_of : World → VcpuId → Facts
+facts_of w id = record { vcpu = id; event = w.event }
 
-abbrev pub with_live : World → Guest → VcpuId → Option Ended → Turn
-with_live w guest id (Some ended) = no_turn w
-with_live w guest id None = with_vcpu w guest id (slice_get guest.vcpus id.index)
+abbrev pub with_vcpu : Bool → World → Bus → Guest → VcpuId → Option Vcpu → Turn
+with_vcpu taken w bus guest id None = no_turn w bus
+with_vcpu taken w bus guest id (Some vcpu) = turn_done w guest id (turned taken (facts_of w id) bus guest.memory vcpu)
 
-abbrev pub with_guest : World → VcpuId → Option Guest → Turn
-with_guest w id None = no_turn w
-with_guest w id (Some guest) = with_live w guest id guest.ended
+abbrev pub with_live : Bool → World → Bus → Guest → VcpuId → Option Ended → Turn
+with_live taken w bus guest id (Some ended) = no_turn w bus
+with_live taken w bus guest id None = with_vcpu taken w bus guest id (slice_get guest.vcpus id.index)
+
+abbrev pub with_guest : Bool → World → Bus → VcpuId → Option Guest → Turn
+with_guest taken w bus id None = no_turn w bus
+with_guest taken w bus id (Some guest) = with_live taken w bus guest id guest.ended
 
 -- the turn of a vcpu; one of an ended guest changes nothing
-abbrev pub plain_turn : World → VcpuId → Turn
-plain_turn w id = with_guest w id (slice_get w.guests id.guest.0)
+abbrev pub turn_of : Bool → World → Bus → VcpuId → Turn
+turn_of taken w bus id = with_guest taken w bus id (slice_get w.guests id.guest.0)
+
+-- the bus takes what is written to it
+abbrev pub plain_turn : World → Bus → VcpuId → Turn
+plain_turn = turn_of true
 
 -- An event.
 
--- what an event makes of the world, what it did, and what it tells
+-- what an event makes of the world and the bus, what it did, and what it tells
 pub record Happened : Type 0 where
   pub world : World
+  pub bus : Bus
   pub effect : Effect
   pub told : List Told
 
@@ -130,25 +144,57 @@ without id (Some other) = if is_vcpu id other then None else Some other
 abbrev pub placed : World → CpuId → VcpuId → World
 placed w cpu id = record w { placing = slice_set (map (without id) w.placing) cpu.0 (Some id) }
 
-abbrev pub nothing_ran : World → Happened
-nothing_ran w = record { world = next_event w; effect = record { vcpu = None; ended = None }; told = [] }
+abbrev pub nothing_ran : World → Bus → Happened
+nothing_ran w bus = record { world = next_event w; bus = bus; effect = record { vcpu = None; ended = None }; told = [] }
 
 abbrev pub ran : VcpuId → Turn → Happened
-ran id turn = record { world = next_event turn.world; effect = record { vcpu = Some id; ended = turn.ended }; told = turn.told }
+ran id turn = record {
+  world = next_event turn.world;
+  bus = turn.bus;
+  effect = record { vcpu = Some id; ended = turn.ended };
+  told = turn.told;
+}
 
-abbrev pub run_of : World → Option (Option VcpuId) → Happened
-run_of w None = nothing_ran w
-run_of w (Some None) = nothing_ran w
-run_of w (Some (Some id)) = ran id (plain_turn w id)
+abbrev pub run_of : World → Bus → Option (Option VcpuId) → Happened
+run_of w bus None = nothing_ran w bus
+run_of w bus (Some None) = nothing_ran w bus
+run_of w bus (Some (Some id)) = ran id (plain_turn w bus id)
 
-unfoldable pub plain_event : World → Event → Happened
-plain_event w (Place cpu id) = nothing_ran (placed w cpu id)
-plain_event w (Run cpu) = run_of w (slice_get w.placing cpu.0)
+unfoldable pub plain_event : World → Bus → Event → Happened
+plain_event w bus (Place cpu id) = nothing_ran (placed w cpu id) bus
+plain_event w bus (Run cpu) = run_of w bus (slice_get w.placing cpu.0)
+plain_event w bus (Feed device value) = nothing_ran w (bus_after_feed bus device value)
+plain_event w bus (Unplug device) = nothing_ran w (bus_after_unplug bus device)
+
+-- An event that is cut off, since the bus refused its write or its feed: what it has reached. The event is not over.
+
+abbrev pub run_reached : World → Bus → Option (Option VcpuId) → World
+run_reached w bus None = w
+run_reached w bus (Some None) = w
+run_reached w bus (Some (Some id)) = (turn_of false w bus id).world
+
+unfoldable pub reached : World → Bus → Event → World
+reached w bus (Place cpu id) = w
+reached w bus (Run cpu) = run_reached w bus (slice_get w.placing cpu.0)
+reached w bus (Feed device value) = w
+reached w bus (Unplug device) = w
+
+-- the event hands something to a device or to the output: a feed, or a run whose turn writes to a port
+abbrev pub HandsOver : World → Bus → Event → Type 0
+HandsOver w bus (Place cpu id) = ⊥
+HandsOver w bus (Run cpu) = length (plain_event w bus (Run cpu)).bus.output ≡ length bus.output + 1
+HandsOver w bus (Feed device value) = Unit {0}
+HandsOver w bus (Unplug device) = ⊥
+
+-- what a run leads to
+pub record Led : Type 0 where
+  pub world : World
+  pub bus : Bus
 
 -- the run of a list of events
-abbrev pub plain_run : World → List Event → World
-plain_run w [] = w
-plain_run w (event ∷ events) = plain_run (plain_event w event).world events
+abbrev pub plain_run : World → Bus → List Event → Led
+plain_run w bus [] = record { world = w; bus = bus }
+plain_run w bus (event ∷ events) = plain_run (plain_event w bus event).world (plain_event w bus event).bus events
 
 -- What is named in events.
 
@@ -166,10 +212,12 @@ world_shape w = record { cpus = w.cpus; vcpus = map (λ guest. length guest.vcpu
 abbrev pub IsVcpu : Shape → VcpuId → Type 0
 IsVcpu shape id = (count : ℕ) × (slice_get shape.vcpus id.guest.0 ≡ Some count) × (id.index < count)
 
--- an event names processors and vcpus that are there
+-- an event names processors, vcpus and devices that are there
 abbrev pub IsNamed : Shape → Event → Type 0
 IsNamed shape (Place cpu id) = (cpu.0 < shape.cpus) × IsVcpu shape id
 IsNamed shape (Run cpu) = cpu.0 < shape.cpus
+IsNamed shape (Feed device value) = device < device_count
+IsNamed shape (Unplug device) = device < device_count
 
 -- What the machine runs: one processor, and one guest with one vcpu.
 abbrev pub single : Shape

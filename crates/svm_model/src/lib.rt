@@ -26,5 +26,5 @@ pub use ports::PortWrite;
 pub use register_file::{Registers, Segment};
 pub use rows::{Decoded, Form, Op, Operand, Row, Width};
 pub use traps::{Cause, Trap};
-pub use turns::{Stepped, Translated};
+pub use turns::{Facts, Stepped, Translated};
 pub use windows::{GuestWindow, OutsideMemory};

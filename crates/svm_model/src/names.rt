@@ -47,6 +47,10 @@ pub enum Event {
     Place { cpu: CpuId, vcpu: VcpuId },
     /// One turn of the vcpu that is placed on a processor, or nothing.
     Run { cpu: CpuId },
+    /// Appends a value to the queue of a port device, 0 to 15; nothing where none is plugged there.
+    Feed { device: u8, value: u32 },
+    /// Takes a port device, 0 to 15, off the bus for good.
+    Unplug { device: u8 },
 }
 
 /// Why a guest was ended by name.

@@ -13,12 +13,16 @@ pub enum Width {
 #[derive(Clone, Copy, Debug, PartialEq, Eq)]
 pub enum Op {
     Hlt,
+    In,
+    Out,
 }
 
 /// A form of an instruction, by mnemonic and opcode.
 #[derive(Clone, Copy, Debug, PartialEq, Eq)]
 pub enum Form {
     HltF4,
+    InE4,
+    OutE6,
 }
 
 /// The operand that a ModRM byte names. `scale` is the factor 1, 2, 4 or 8; `next` marks an address relative to the
@@ -40,7 +44,7 @@ pub enum Operand {
     },
 }
 
-/// A decoded instruction. What a form does not have is 0.
+/// A decoded instruction. What a form does not have is 0. The port of IN and OUT with a port byte is the immediate.
 #[derive(Clone, Copy, Debug, PartialEq, Eq)]
 pub struct Row {
     pub op: Op,

@@ -1,6 +1,13 @@
-// What a turn's accesses lead to, and how the turn comes out.
+// What a turn knows of itself, what its accesses lead to, and how it comes out.
 
-use crate::names::{End, Frame};
+use crate::names::{End, Frame, VcpuId};
+
+/// What a turn knows beside its vcpu's registers: whose it is, and the number of the event.
+#[derive(Clone, Copy)]
+pub struct Facts {
+    pub vcpu: VcpuId,
+    pub event: u32,
+}
 
 /// The turn went through, or it ends its guest.
 #[derive(Clone, Copy)]
