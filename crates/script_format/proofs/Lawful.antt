@@ -1,17 +1,18 @@
 -- Each script that is read is lawful.
-use Rattle.std.proofs.Common.{◌≡◌, ℕ, ◌+◌, ◌≤◌, ◌<◌, cond, ltb, leb, ◌&&◌, Bool, true, false, List, [], ◌∷◌, ◌++◌, Option, Some, None, length, Result, Ok, Err, refl, subst, arith, codes}
+use Rattle.std.proofs.Common.{◌≡◌, ℕ, ◌+◌, ◌≤◌, ◌<◌, ◌^◌, cond, ltb, leb, ◌&&◌, Bool, true, false, List, [], ◌∷◌, ◌++◌, Option, Some, None, length, Result, Ok, Err, refl, subst, arith, codes}
 use Rattle.std.specs.Prelude.{IfOk, ⊤}
 use Rattle.std.specs.List.{list_all, slice_get}
 use Rattle.std.specs.Str.{bytes_eq}
 use Rattle.std.specs.Option.{option_to_list}
 use Rattle.std.proofs.lemmas.Result.{IfOk-weaker}
 use Rattle.std.proofs.lemmas.Bool.{ltb-true, leb-true, and_parts}
+use Rattle.svm_model.specs.Bus.{device_count}
 use Rattle.svm_model.specs.Image.{Image}
-use Rattle.svm_model.specs.Script.{Script, ◌>>=◌, number_in, is_text, is_comment, words_of, lines_of, judged, vcpus_in, place_values, place_line, run_values, run_line, command, within_limit, said_by, said_in, said_of, at_line, count_of, event_limit, script_from, script_limit, script_of, IsLawfulLine, AreLawful, IsLawful, events_of}
+use Rattle.svm_model.specs.Script.{Script, ◌>>=◌, number_in, is_text, is_comment, words_of, lines_of, judged, vcpus_in, place_values, place_line, run_values, run_line, feed_values, feed_line, unplug_values, unplug_line, command, within_limit, said_by, said_in, said_of, at_line, count_of, event_limit, script_from, script_limit, script_of, IsLawfulLine, AreLawful, IsLawful, events_of}
 use Rattle.svm_model.specs.World.{Shape, image_shape}
 use Rattle.svm_model.specs.declared.formats.ScriptLine.{ScriptLine}
 use Rattle.svm_model.specs.declared.formats.ScriptReason.{ScriptReason}
-use Rattle.svm_model.specs.declared.formats.ScriptReason.TheVariants.{Bytes, Cpu, Vcpu, Count, Events}
+use Rattle.svm_model.specs.declared.formats.ScriptReason.TheVariants.{Bytes, Cpu, Vcpu, Device, Count, Value, Events}
 use Rattle.script_format.specs.declared.refusal.ScriptRefusal.{ScriptRefusal}
 use Rattle.script_format.specs.Reading.{GivesScript}
 use Rattle.script_format.proofs.Order.{all_counted}
@@ -78,10 +79,42 @@ run_line_is shape first (cpu ∷ count ∷ []) =
     run_is shape first c n))
 run_line_is shape first (a ∷ b ∷ c ∷ words) = tt
 
+device_is : (device : ℕ) → IfOk (judged Device (ltb device device_count) device) (λ place. place < device_count)
+device_is device = passes Device (ltb device device_count) device (λ place. place < device_count) (λ good. ltb-true device device_count good)
+
+feed_is : (shape : Shape) (first device value : ℕ) → IfOk (feed_values first device value) (BeginsAt shape first)
+feed_is shape first device value =
+    then (λ place. place < device_count) (BeginsAt shape first) (judged Device (ltb device device_count) device) _ (device_is device) (λ place a.
+    skip (BeginsAt shape first) (judged Value (ltb value (2 ^ 32)) value) _ (λ fed.
+    (record { named = a; some = omega arith; single = refl }, refl)))
+
+feed_line_is : (shape : Shape) (first : ℕ) (words : List (List ℕ)) → IfOk (feed_line first words) (BeginsAt shape first)
+unfolding feed_line
+feed_line_is shape first [] = tt
+feed_line_is shape first (a ∷ []) = tt
+feed_line_is shape first (device ∷ value ∷ []) =
+    skip (BeginsAt shape first) (number_in device) _ (λ d.
+    skip (BeginsAt shape first) (number_in value) _ (λ v.
+    feed_is shape first d v))
+feed_line_is shape first (a ∷ b ∷ c ∷ words) = tt
+
+unplug_is : (shape : Shape) (first device : ℕ) → IfOk (unplug_values first device) (BeginsAt shape first)
+unplug_is shape first device =
+    then (λ place. place < device_count) (BeginsAt shape first) (judged Device (ltb device device_count) device) _ (device_is device) (λ place a.
+    (record { named = a; some = omega arith; single = refl }, refl))
+
+unplug_line_is : (shape : Shape) (first : ℕ) (words : List (List ℕ)) → IfOk (unplug_line first words) (BeginsAt shape first)
+unfolding unplug_line
+unplug_line_is shape first [] = tt
+unplug_line_is shape first (device ∷ []) = skip (BeginsAt shape first) (number_in device) _ (λ d. unplug_is shape first d)
+unplug_line_is shape first (a ∷ b ∷ words) = tt
+
 command_is : (shape : Shape) (first : ℕ) (word : List ℕ) (words : List (List ℕ)) → IfOk (command shape first word words) (BeginsAt shape first)
 command_is shape first word words =
     either (bytes_eq word (codes "place")) _ _ (BeginsAt shape first) (place_line_is shape first words)
-    (either (bytes_eq word (codes "run")) _ _ (BeginsAt shape first) (run_line_is shape first words) tt)
+    (either (bytes_eq word (codes "run")) _ _ (BeginsAt shape first) (run_line_is shape first words)
+    (either (bytes_eq word (codes "feed")) _ _ (BeginsAt shape first) (feed_line_is shape first words)
+    (either (bytes_eq word (codes "unplug")) _ _ (BeginsAt shape first) (unplug_line_is shape first words) tt)))
 
 -- what a line says is lawful, begins at the number, and does not go past the most events
 abbrev IsKept : Shape → ℕ → ScriptLine → Type 0

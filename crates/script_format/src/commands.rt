@@ -2,7 +2,8 @@
 
 ghost use Rattle.std.specs.Prelude.{◌≡◌, ◌≤◌, ◌<◌, [], ◌∷◌, map, nat_lt, slice_get, IfOk};
 ghost use Rattle.svm_model.specs.Image.{IsLawfulImage};
-ghost use Rattle.svm_model.specs.Script.{command, judged, line_of, place_line, place_values, run_line, run_values, vcpus_in, within_limit};
+ghost use Rattle.svm_model.specs.Bus.{device_count};
+ghost use Rattle.svm_model.specs.Script.{command, feed_line, feed_values, judged, line_of, place_line, place_values, run_line, run_values, unplug_line, unplug_values, vcpus_in, within_limit};
 ghost use Rattle.svm_model.specs.World.{image_shape};
 
 use crate::numbers::number_in;
@@ -11,6 +12,9 @@ use svm_model::{CpuId, Event, GuestId, ScriptLine, ScriptReason, VcpuId};
 
 // The most events of a line, and of a script.
 const EVENT_LIMIT: u32 = 1_048_576;
+
+// How many devices there are.
+const DEVICE_COUNT: u64 = 16;
 
 // So many times the same event, from a number on.
 fn line_of(event: Event, first: u32, times: u32) -> ScriptLine
@@ -136,6 +140,69 @@ fn run_line(image: &Image, first: u32, words: &[&[u8]]) -> Result<ScriptLine, Sc
     run_words(image, first, cpu, count)
 }
 
+// A device of the bus.
+fn device_in(device: u64) -> Result<u8, ScriptReason>
+    ensures { result ≡ judged ScriptReason.Device (nat_lt device device_count) device }
+{
+    if device >= DEVICE_COUNT {
+        return Err(ScriptReason::Device);
+    }
+    Ok(device as u8)
+}
+
+// The device is looked at before the value, which has at most 32 bits.
+fn feed_values(first: u32, device: u64, value: u64) -> Result<ScriptLine, ScriptReason>
+    ensures { result ≡ feed_values first device value }
+{
+    let device = device_in(device)?;
+    if value > u32::MAX as u64 {
+        return Err(ScriptReason::Value);
+    }
+    let value = value as u32;
+    Ok(line_of(Event::Feed { device, value }, first, 1))
+}
+
+// Both are numbers before the value of any is looked at.
+#[tactic(auto, unfolding(svm_model::specs::Script::feed_line))]
+fn feed_words(first: u32, device: &[u8], value: &[u8]) -> Result<ScriptLine, ScriptReason>
+    ensures { result ≡ feed_line first (device.now ∷ value.now ∷ []) }
+{
+    let device = number_in(device)?;
+    let value = number_in(value)?;
+    feed_values(first, device, value)
+}
+
+// The words behind `feed`: a device, and the value that it is fed.
+#[tactic(auto, unfolding(svm_model::specs::Script::feed_line))]
+fn feed_line(first: u32, words: &[&[u8]]) -> Result<ScriptLine, ScriptReason>
+    ensures { result ≡ feed_line first (map (λ w. w.now) words.now) }
+{
+    let [device, value] = words else {
+        return Err(ScriptReason::Words);
+    };
+    feed_words(first, device, value)
+}
+
+#[tactic(auto, unfolding(svm_model::specs::Script::unplug_line))]
+fn unplug_word(first: u32, device: &[u8]) -> Result<ScriptLine, ScriptReason>
+    ensures { result ≡ unplug_line first (device.now ∷ []) }
+{
+    let device = number_in(device)?;
+    let device = device_in(device)?;
+    Ok(line_of(Event::Unplug { device }, first, 1))
+}
+
+// The words behind `unplug`: a device.
+#[tactic(auto, unfolding(svm_model::specs::Script::unplug_line))]
+fn unplug_line(first: u32, words: &[&[u8]]) -> Result<ScriptLine, ScriptReason>
+    ensures { result ≡ unplug_line first (map (λ w. w.now) words.now) }
+{
+    let [device] = words else {
+        return Err(ScriptReason::Words);
+    };
+    unplug_word(first, device)
+}
+
 /// What the words behind a first word say, where so many events come before the line.
 pub fn command(
     image: &Image,
@@ -150,6 +217,10 @@ pub fn command(
         place_line(image, first, words)
     } else if word == b"run".as_slice() {
         run_line(image, first, words)
+    } else if word == b"feed".as_slice() {
+        feed_line(first, words)
+    } else if word == b"unplug".as_slice() {
+        unplug_line(first, words)
     } else {
         Err(ScriptReason::Word)
     }

@@ -28,7 +28,7 @@ fn image_of(alloc: Global, cpus: u8, guests: &[u8]) -> Result<Image, Fail>
 
 // Scripts for an image of one processor and one vcpu: how many lines say something, and how many events they are.
 #[rattlefmt::skip]
-const SCRIPTS: [(&[u8], usize, u32); 16] = [
+const SCRIPTS: [(&[u8], usize, u32); 17] = [
     (b"place 0 0 0\nrun 0 1\n", 2, 2),
     (b"place 0 0 0\r\nrun 0 1\r\n", 2, 2),
     (b"place 0 0 0\nrun 0 7", 2, 8),
@@ -46,6 +46,7 @@ const SCRIPTS: [(&[u8], usize, u32); 16] = [
     (b"run 0 1048576\n", 1, 1_048_576),
     (b"run 0 1048575\nplace 0 0 0", 2, 1_048_576),
     (b"run 0 0x100000\n# no more", 1, 1_048_576),
+    (b"feed 0 4294967295\nfeed 15 0\nunplug 0xf\nunplug 15\n", 4, 4),
 ];
 
 #[test]
@@ -60,7 +61,7 @@ fn scripts_are_read(rt: HostRuntime) -> Result<(), Fail> {
 
 // Scripts that are refused for the same image: the line, and the reason.
 #[rattlefmt::skip]
-const REFUSED: [(&[u8], u32, ScriptReason); 54] = [
+const REFUSED: [(&[u8], u32, ScriptReason); 68] = [
     (b"run 0 1\r", 1, ScriptReason::Bytes),
     (b"run 0 1\r\r\n", 1, ScriptReason::Bytes),
     (b"run 0\r 1\n", 1, ScriptReason::Bytes),
@@ -97,6 +98,20 @@ const REFUSED: [(&[u8], u32, ScriptReason); 54] = [
     (b"place 0x10000000000000000 0 0\n", 1, ScriptReason::Number),
     (b"place 0xffffffffffffffff 0 0\n", 1, ScriptReason::Cpu),
     (b"place 0x000000000000000001 0 0\n", 1, ScriptReason::Cpu),
+    (b"feeds 0 0\n", 1, ScriptReason::Word),
+    (b"feed 0\n", 1, ScriptReason::Words),
+    (b"feed 0 0 0\n", 1, ScriptReason::Words),
+    (b"feed 16 x\n", 1, ScriptReason::Number),
+    (b"feed x 0\n", 1, ScriptReason::Number),
+    (b"feed 16 4294967296\n", 1, ScriptReason::Device),
+    (b"feed 15 4294967296\n", 1, ScriptReason::Value),
+    (b"feed 15 0x100000000\n", 1, ScriptReason::Value),
+    (b"unplug\n", 1, ScriptReason::Words),
+    (b"unplug 0 0\n", 1, ScriptReason::Words),
+    (b"unplug x\n", 1, ScriptReason::Number),
+    (b"unplug 16\n", 1, ScriptReason::Device),
+    (b"unplug 256\n", 1, ScriptReason::Device),
+    (b"run 0 1048576\nfeed 0 0\n", 2, ScriptReason::Events),
     // A number is told before a value, and the values in their order.
     (b"place 1 1 x\n", 1, ScriptReason::Number),
     (b"run 1 x\n", 1, ScriptReason::Number),
