@@ -1,3 +1,4 @@
+pub mod BusLemmas
 pub mod PutLemmas
 pub mod WalkLemmas
 pub mod WindowLemmas

@@ -59,6 +59,10 @@ halt vcpu size =
     if vcpu.registers.cpl == 0 then Done (record { registers = at_next vcpu.registers (rip_after vcpu size); halted = true }) Went
     else faulted vcpu general_protection
 
+-- the port byte of IN and OUT; ports have 16 bits
+abbrev pub port_of : Instruction → ℕ
+port_of row = row.immediate % 2 ^ 16
+
 -- IN and OUT need a CPL of at most IOPL (volume 1, 'I/O Privilege Level')
 abbrev pub may_use_ports : Vcpu → Bool
 may_use_ports vcpu = nat_le vcpu.registers.cpl (io_privilege vcpu.registers)
@@ -86,8 +90,8 @@ write_port facts vcpu size port =
 
 abbrev pub done_op : Op → Facts → Vcpu → Instruction → ℕ → Course
 done_op op.Hlt facts vcpu row size = halt vcpu size
-done_op op.In facts vcpu row size = read_port vcpu size row.immediate
-done_op op.Out facts vcpu row size = write_port facts vcpu size row.immediate
+done_op op.In facts vcpu row size = read_port vcpu size (port_of row)
+done_op op.Out facts vcpu row size = write_port facts vcpu size (port_of row)
 
 abbrev pub done_row : Facts → Vcpu → Instruction → ℕ → Course
 done_row facts vcpu row size = done_op row.op facts vcpu row size

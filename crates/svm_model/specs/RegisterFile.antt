@@ -43,4 +43,4 @@ al r = slice_index r.general 0 % 256
 
 -- a write of AL leaves the other bits of RAX
 abbrev pub with_al : Registers → ℕ → Registers
-with_al r value = record r { general = slice_set r.general 0 (256 * (slice_index r.general 0 / 256) + value) }
+with_al r value = record r { general = slice_set r.general 0 (256 * (slice_index r.general 0 / 256) + value % 256) }

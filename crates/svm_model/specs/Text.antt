@@ -102,11 +102,15 @@ abbrev pub vcpu_lines : ℕ → ℕ → List Vcpu → List ℕ
 vcpu_lines guest index [] = []
 vcpu_lines guest index (vcpu ∷ vcpus) = vcpu_line guest index 1 vcpu.halted vcpu.registers ⧺ vcpu_lines guest (index + 1) vcpus
 
+-- what was written, and where
+abbrev pub sent_text : ℕ → ℕ → ℕ → List ℕ
+sent_text port width value = codes " port=" ⧺ hex port ⧺ codes " width=" ⧺ decimal width ⧺ codes " value=" ⧺ hex value ⧺ newline
+
 -- a write to a port, with its width in bytes
 unfoldable pub out_line : PortWrite → List ℕ
 out_line w =
     codes "out " ⧺ decimal w.vcpu.guest.0 ⧺ codes "." ⧺ decimal w.vcpu.index ⧺ codes " event=" ⧺ decimal w.event
-    ⧺ codes " port=" ⧺ hex w.port ⧺ codes " width=" ⧺ decimal w.width ⧺ codes " value=" ⧺ hex w.value ⧺ newline
+    ⧺ sent_text w.port w.width w.value
 
 -- the writes of a guest, in order
 abbrev pub guest_out_line : ℕ → PortWrite → List ℕ

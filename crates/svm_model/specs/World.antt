@@ -14,6 +14,7 @@ use Rattle.svm_model.specs.declared.names.Ended.{Ended}
 use Rattle.svm_model.specs.declared.names.Event.{Event}
 use Rattle.svm_model.specs.declared.names.Event.TheVariants.{Place, Run, Feed, Unplug}
 use Rattle.svm_model.specs.declared.names.VcpuId.{VcpuId}
+use Rattle.svm_model.specs.declared.page_tables.Paging.{Paging}
 use Rattle.svm_model.specs.declared.register_file.Registers.{Registers}
 use Rattle.svm_model.specs.declared.turns.Facts.{Facts}
 use Rattle.svm_model.specs.declared.turns.Stepped.{Stepped}
@@ -56,8 +57,11 @@ world_of image = record {
 
 -- A vcpu's turn.
 
+abbrev pub plain_way : Paging → Bool → Way
+plain_way paging taken = record { asid = 0; outer = Direct; paging = paging; taken = taken }
+
 abbrev pub way_of : Registers → Bool → Way
-way_of registers taken = record { asid = 0; outer = Direct; paging = paging_of registers; taken = taken }
+way_of registers taken = plain_way (paging_of registers) taken
 
 -- nothing is done
 abbrev pub idle : Bus → List ℕ → Vcpu → Turned
