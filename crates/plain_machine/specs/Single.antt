@@ -1,10 +1,15 @@
 -- A world of one guest with one vcpu on one processor.
-use Rattle.std.specs.Prelude.{ℕ, List, [], ◌∷◌, Option, Some, None, slice_get}
+use Rattle.std.specs.Prelude.{ℕ, List, [], ◌∷◌, Bool, Option, Some, None, slice_get}
 use Rattle.svm_model.specs.Guest.{Guest, Vcpu}
 use Rattle.svm_model.specs.World.{World}
 use Rattle.svm_model.specs.declared.names.Ended.{Ended}
 use Rattle.svm_model.specs.declared.names.GuestId.{GuestId}
 use Rattle.svm_model.specs.declared.names.VcpuId.{VcpuId}
+
+-- the machine: its world, and whether it is stopped, since the bus refused what an event handed it
+pub record Machine : Type 0 where
+  pub world : World
+  pub stopped : Bool
 
 -- the vcpu
 abbrev pub first_id : VcpuId

@@ -7,6 +7,7 @@
 //! effect of the plain event, with a bound on counted reads.
 #![tactic(auto)]
 
+mod execution;
 mod fetch;
 mod loading;
 mod machine;

@@ -1,9 +1,11 @@
 // The plain machine: a world of one guest with one vcpu on one processor.
-ghost use Rattle.std.specs.Prelude.{◌≡◌, ℕ, ◌+◌, ◌*◌, ◌%◌, ◌<◌, ◌≤◌, Bool, true, Some, None, Err, List, [], ◌∷◌, length, IfOk, IfSome, IsTrue, MatchResult, slice_get, drop, take};
+ghost use Rattle.std.specs.Prelude.{◌≡◌, ℕ, ◌+◌, ◌*◌, ◌%◌, ◌<◌, ◌≤◌, Bool, true, false, Some, None, Err, List, [], ◌∷◌, length, is_ok, is_err, OnOk, OnErr, IfOk, IfErr, IfSome, IsTrue, MatchResult, slice_get, drop, take};
 ghost use Rattle.std.specs.Option.{option_map};
 ghost use Rattle.svm_model.specs.Bytes.{IsWithin, guest_of, bytes_at};
 ghost use Rattle.svm_model.specs.Image.{Image as ImageRecord, IsLawfulImage, IsLawfulGuest};
-ghost use Rattle.svm_model.specs.World.{World, world_of, first_guest, plain_event, plain_turn, placed, next_event, world_shape, image_shape, is_offered, IsNamed, IsVcpu};
+ghost use Rattle.svm_model.specs.World.{World, world_of, first_guest, plain_event, plain_turn, turn_of, placed, next_event, reached, world_shape, image_shape, is_offered, HandsOver, IsNamed, IsVcpu};
+ghost use Rattle.port_bus.specs.Causes.{Blames, NoneFell};
+ghost use Rattle.plain_machine.specs.Parts.{WritesOne};
 ghost use Rattle.plain_machine.specs.Single.{first_id, vcpu_in, guest_in, single_world};
 
 use crate::fetch::instruction;
@@ -11,13 +13,15 @@ use crate::loading::load_segments;
 use crate::vcpus::Vcpu;
 use host_memory::{GuestWindow, HostMemory, OutsideMemory, Steps};
 use image_format::{GuestImage, Image};
+use port_bus::{Bus, BusState};
 use std::alloc::{AllocError, Global};
 use std::marker::Model;
 use std::sync::ledger::Ledger;
-use svm_model::Stepped;
+use svm_model::{Facts, RunEnd, Stepped};
 use vm_names::{CpuId, Effect, Ended, Event, GuestId, NoMemory, Registers, VcpuId};
 
-/// The plain machine. In clauses it is the world that it runs.
+/// The plain machine. In clauses it is the world that it runs, and whether it is stopped. The bus of port devices stands
+/// beside it.
 #[derive(Drop)]
 pub struct PlainMachine {
     version: u16,
@@ -28,21 +32,30 @@ pub struct PlainMachine {
     ended: Option<Ended>,
     placed: Option<VcpuId>,
     event: u32,
+    stopped: bool,
 }
 
 impl Model for PlainMachine {
     ghost use Rattle.std.specs.Prelude.{◌≡◌, ◌%◌};
     ghost use Rattle.std.specs.Option.{ForSome};
     ghost use Rattle.svm_model.specs.Bytes.{IsWithin, guest_of};
-    ghost use Rattle.svm_model.specs.World.{World};
-    ghost use Rattle.plain_machine.specs.Single.{first_id, single_world};
+    ghost use Rattle.plain_machine.specs.Single.{Machine, first_id, single_world};
 
-    ghost Value = { World };
+    ghost Value = { Machine };
 
-    ghost view = { λ m. single_world m.version m.features (guest_of m.window m.memory.bytes) m.ended m.vcpu m.placed m.event };
+    ghost view = { λ m. record {
+      world = single_world m.version m.features (guest_of m.window m.memory.bytes) m.ended m.vcpu m.placed m.event;
+      stopped = m.stopped;
+    } };
 
     ghost invariant = { λ m. IsWithin m.window m.memory.bytes × (m.window.size % 4096 ≡ 0) × ForSome m.placed (λ id. id ≡ first_id) };
 }
+
+// The one vcpu.
+const FIRST: VcpuId = VcpuId {
+    guest: GuestId(0),
+    index: 0,
+};
 
 // The effect of an event in which nothing ran.
 const NOTHING: Effect = Effect {
@@ -53,19 +66,40 @@ const NOTHING: Effect = Effect {
 impl PlainMachine {
     /// A turn of the vcpu. A halted one does nothing, and so does one whose guest was ended.
     #[tactic(auto, using(svm_model::proofs::WindowLemmas::windows), unfolding(svm_model::specs::World::turned))]
-    fn turn<L: Ledger>(&mut self, steps: &mut Steps<L>) -> Option<Ended>
-        ensures world { self.new ≡ (plain_turn self.old first_id).world }
-        ensures ended { result ≡ (plain_turn self.old first_id).ended }
-        ensures shape { world_shape self.new ≡ world_shape self.old }
-        ensures number { self.new.event ≡ self.old.event }
+    fn turn<L: Ledger>(
+        &mut self,
+        bus: &mut Bus,
+        steps: &mut Steps<L>,
+    ) -> Result<Option<Ended>, RunEnd>
+        ensures world { self.new.world ≡ (turn_of (is_ok result) self.old.world (⟦<Bus as BusState>⟧.bus bus.old) first_id).world }
+        ensures bus { OnOk result (⟦<Bus as BusState>⟧.bus bus.new ≡ (plain_turn self.old.world (⟦<Bus as BusState>⟧.bus bus.old) first_id).bus) }
+        ensures ended { IfOk result (λ ended. ended ≡ (plain_turn self.old.world (⟦<Bus as BusState>⟧.bus bus.old) first_id).ended) }
+        ensures kept { OnErr result (⟦<Bus as BusState>⟧.bus bus.new ≡ ⟦<Bus as BusState>⟧.bus bus.old) }
+        ensures writes { OnErr result (WritesOne (⟦<Bus as BusState>⟧.bus bus.old) (plain_turn self.old.world (⟦<Bus as BusState>⟧.bus bus.old) first_id).bus) }
+        ensures blamed { IfErr result (λ end. Blames end (⟦<Bus as BusState>⟧.faults bus.old) (⟦<Bus as BusState>⟧.faults bus.new)) }
+        ensures none_fell { NoneFell (⟦<Bus as BusState>⟧.faults bus.old) (⟦<Bus as BusState>⟧.faults bus.new) }
+        ensures shape { world_shape self.new.world ≡ world_shape self.old.world }
+        ensures number { self.new.world.event ≡ self.old.world.event }
+        ensures stopped { self.new.stopped ≡ self.old.stopped }
         ensures steps { steps.new ≤ steps.old + 10 }
         ensures later { steps.old ≤ steps.new }
     {
         if self.ended.is_some() || self.vcpu.halted {
-            return None;
+            return Ok(None);
         }
-        match instruction(&mut self.memory, self.window, &mut self.vcpu, steps) {
-            Stepped::Went => None,
+        let facts = Facts {
+            vcpu: FIRST,
+            event: self.event,
+        };
+        match instruction(
+            &mut self.memory,
+            self.window,
+            bus,
+            facts,
+            &mut self.vcpu,
+            steps,
+        )? {
+            Stepped::Went => Ok(None),
             Stepped::Ends(end) => {
                 let ended = Ended {
                     end,
@@ -73,7 +107,7 @@ impl PlainMachine {
                     event: self.event,
                 };
                 self.ended = Some(ended);
-                Some(ended)
+                Ok(Some(ended))
             }
         }
     }
@@ -81,8 +115,8 @@ impl PlainMachine {
     /// Places the vcpu on the processor.
     #[tactic(auto, using(crate::proofs::Singles::singles))]
     fn place(&mut self, cpu: CpuId, vcpu: VcpuId)
-        requires { IsNamed (world_shape self.old) (Event.Place cpu vcpu) }
-        ensures { self.new ≡ placed self.old cpu vcpu }
+        requires { IsNamed (world_shape self.old.world) (Event.Place cpu vcpu) }
+        ensures { self.new ≡ record { world = placed self.old.world cpu vcpu; stopped = self.old.stopped } }
     {
         let _ = cpu;
         self.placed = Some(vcpu);
@@ -90,8 +124,8 @@ impl PlainMachine {
 
     /// The event is over.
     fn finish_event(&mut self)
-        requires { self.old.event < 1048576 }
-        ensures { self.new ≡ next_event self.old }
+        requires { self.old.world.event < 1048576 }
+        ensures { self.new ≡ record { world = next_event self.old.world; stopped = self.old.stopped } }
     {
         self.event += 1;
     }
@@ -99,8 +133,8 @@ impl PlainMachine {
     /// The vcpu that is placed on the processor.
     #[tactic(auto, using(crate::proofs::Singles::singles))]
     fn placed_on(&self, cpu: CpuId) -> Option<VcpuId>
-        requires { IsNamed (world_shape self.now) (Event.Run cpu) }
-        ensures placed { slice_get self.now.placing cpu.0 ≡ Some result }
+        requires { IsNamed (world_shape self.now.world) (Event.Run cpu) }
+        ensures placed { slice_get self.now.world.placing cpu.0 ≡ Some result }
         ensures first { IfSome result (λ id. id ≡ first_id) }
     {
         let _ = cpu;
@@ -108,40 +142,82 @@ impl PlainMachine {
     }
 
     /// A turn of the vcpu that is placed on the processor, or nothing.
-    #[tactic(auto, unfolding(svm_model::specs::World::plain_event))]
-    fn run<L: Ledger>(&mut self, cpu: CpuId, steps: &mut Steps<L>) -> Effect
-        requires named { IsNamed (world_shape self.old) (Event.Run cpu) }
-        requires few { self.old.event < 1048576 }
-        ensures world { self.new ≡ (plain_event self.old (Event.Run cpu)).world }
-        ensures effect { result ≡ (plain_event self.old (Event.Run cpu)).effect }
-        ensures shape { world_shape self.new ≡ world_shape self.old }
-        ensures number { self.new.event ≡ self.old.event + 1 }
+    #[tactic(auto, unfolding(svm_model::specs::World::plain_event, svm_model::specs::World::reached))]
+    fn run<L: Ledger>(
+        &mut self,
+        cpu: CpuId,
+        bus: &mut Bus,
+        steps: &mut Steps<L>,
+    ) -> Result<Effect, RunEnd>
+        requires named { IsNamed (world_shape self.old.world) (Event.Run cpu) }
+        requires few { self.old.world.event < 1048576 }
+        ensures world { OnOk result (self.new.world ≡ (plain_event self.old.world (⟦<Bus as BusState>⟧.bus bus.old) (Event.Run cpu)).world) }
+        ensures bus { OnOk result (⟦<Bus as BusState>⟧.bus bus.new ≡ (plain_event self.old.world (⟦<Bus as BusState>⟧.bus bus.old) (Event.Run cpu)).bus) }
+        ensures effect { IfOk result (λ effect. effect ≡ (plain_event self.old.world (⟦<Bus as BusState>⟧.bus bus.old) (Event.Run cpu)).effect) }
+        ensures reached { OnErr result (self.new.world ≡ reached self.old.world (⟦<Bus as BusState>⟧.bus bus.old) (Event.Run cpu)) }
+        ensures kept { OnErr result (⟦<Bus as BusState>⟧.bus bus.new ≡ ⟦<Bus as BusState>⟧.bus bus.old) }
+        ensures hands_over { OnErr result (HandsOver self.old.world (⟦<Bus as BusState>⟧.bus bus.old) (Event.Run cpu)) }
+        ensures blamed { IfErr result (λ end. Blames end (⟦<Bus as BusState>⟧.faults bus.old) (⟦<Bus as BusState>⟧.faults bus.new)) }
+        ensures none_fell { NoneFell (⟦<Bus as BusState>⟧.faults bus.old) (⟦<Bus as BusState>⟧.faults bus.new) }
+        ensures shape { world_shape self.new.world ≡ world_shape self.old.world }
+        ensures number { OnOk result (self.new.world.event ≡ self.old.world.event + 1) }
+        ensures stopped { self.new.stopped ≡ self.old.stopped }
         ensures steps { steps.new ≤ steps.old + 10 }
         ensures later { steps.old ≤ steps.new }
     {
         let Some(vcpu) = self.placed_on(cpu) else {
             self.finish_event();
-            return NOTHING;
+            return Ok(NOTHING);
         };
-        let ended = self.turn(steps);
+        let ended = self.turn(bus, steps)?;
         self.finish_event();
-        Effect {
+        Ok(Effect {
             vcpu: Some(vcpu),
             ended,
-        }
+        })
     }
 
-    /// Does one event of the schedule: places a vcpu, or lets the placed vcpu take one turn. The turn of a guest that was
-    /// ended does nothing, so an end stays. At most ten reads are counted. The event names what the image has, and fewer
-    /// than 1,048,576 events came before it.
-    #[tactic(auto, unfolding(svm_model::specs::World::plain_event))]
-    pub fn event<L: Ledger>(&mut self, event: Event, steps: &mut Steps<L>) -> Effect
-        requires named { IsNamed (world_shape self.old) event }
-        requires few { self.old.event < 1048576 }
-        ensures world { self.new ≡ (plain_event self.old event).world }
-        ensures effect { result ≡ (plain_event self.old event).effect }
-        ensures shape { world_shape self.new ≡ world_shape self.old }
-        ensures number { self.new.event ≡ self.old.event + 1 }
+    /// Feeds a device.
+    #[tactic(auto, unfolding(svm_model::specs::World::plain_event, svm_model::specs::World::reached))]
+    fn feed(&mut self, device: u8, value: u32, bus: &mut Bus) -> Result<Effect, RunEnd>
+        requires named { IsNamed (world_shape self.old.world) (Event.Feed device value) }
+        requires few { self.old.world.event < 1048576 }
+        ensures world { OnOk result (self.new.world ≡ (plain_event self.old.world (⟦<Bus as BusState>⟧.bus bus.old) (Event.Feed device value)).world) }
+        ensures bus { OnOk result (⟦<Bus as BusState>⟧.bus bus.new ≡ (plain_event self.old.world (⟦<Bus as BusState>⟧.bus bus.old) (Event.Feed device value)).bus) }
+        ensures effect { IfOk result (λ effect. effect ≡ (plain_event self.old.world (⟦<Bus as BusState>⟧.bus bus.old) (Event.Feed device value)).effect) }
+        ensures reached { OnErr result (self.new.world ≡ reached self.old.world (⟦<Bus as BusState>⟧.bus bus.old) (Event.Feed device value)) }
+        ensures kept { OnErr result (⟦<Bus as BusState>⟧.bus bus.new ≡ ⟦<Bus as BusState>⟧.bus bus.old) }
+        ensures blamed { IfErr result (λ end. Blames end (⟦<Bus as BusState>⟧.faults bus.old) (⟦<Bus as BusState>⟧.faults bus.new)) }
+        ensures none_fell { NoneFell (⟦<Bus as BusState>⟧.faults bus.old) (⟦<Bus as BusState>⟧.faults bus.new) }
+        ensures shape { world_shape self.new.world ≡ world_shape self.old.world }
+        ensures number { OnOk result (self.new.world.event ≡ self.old.world.event + 1) }
+        ensures stopped { self.new.stopped ≡ self.old.stopped }
+    {
+        bus.feed(device, value)?;
+        self.finish_event();
+        Ok(NOTHING)
+    }
+
+    /// What an event does, before a refusal of the bus stops the machine.
+    #[tactic(auto, unfolding(svm_model::specs::World::plain_event, svm_model::specs::World::reached))]
+    fn happen<L: Ledger>(
+        &mut self,
+        event: Event,
+        bus: &mut Bus,
+        steps: &mut Steps<L>,
+    ) -> Result<Effect, RunEnd>
+        requires named { IsNamed (world_shape self.old.world) event }
+        requires few { self.old.world.event < 1048576 }
+        ensures world { OnOk result (self.new.world ≡ (plain_event self.old.world (⟦<Bus as BusState>⟧.bus bus.old) event).world) }
+        ensures bus { OnOk result (⟦<Bus as BusState>⟧.bus bus.new ≡ (plain_event self.old.world (⟦<Bus as BusState>⟧.bus bus.old) event).bus) }
+        ensures effect { IfOk result (λ effect. effect ≡ (plain_event self.old.world (⟦<Bus as BusState>⟧.bus bus.old) event).effect) }
+        ensures reached { OnErr result (self.new.world ≡ reached self.old.world (⟦<Bus as BusState>⟧.bus bus.old) event) }
+        ensures kept { OnErr result (⟦<Bus as BusState>⟧.bus bus.new ≡ ⟦<Bus as BusState>⟧.bus bus.old) }
+        ensures hands_over { OnErr result (HandsOver self.old.world (⟦<Bus as BusState>⟧.bus bus.old) event) }
+        ensures blamed { IfErr result (λ end. Blames end (⟦<Bus as BusState>⟧.faults bus.old) (⟦<Bus as BusState>⟧.faults bus.new)) }
+        ensures shape { world_shape self.new.world ≡ world_shape self.old.world }
+        ensures number { OnOk result (self.new.world.event ≡ self.old.world.event + 1) }
+        ensures stopped { self.new.stopped ≡ self.old.stopped }
         ensures steps { steps.new ≤ steps.old + 10 }
         ensures later { steps.old ≤ steps.new }
     {
@@ -149,17 +225,68 @@ impl PlainMachine {
             Event::Place { cpu, vcpu } => {
                 self.place(cpu, vcpu);
                 self.finish_event();
-                NOTHING
+                Ok(NOTHING)
             }
-            Event::Run { cpu } => self.run(cpu, steps),
+            Event::Run { cpu } => self.run(cpu, bus, steps),
+            Event::Feed { device, value } => self.feed(device, value, bus),
+            Event::Unplug { device } => {
+                bus.unplug(device);
+                self.finish_event();
+                Ok(NOTHING)
+            }
         }
+    }
+
+    /// Does one event of the schedule: places a vcpu, lets the placed vcpu take one turn, feeds a port device or unplugs it.
+    /// The turn of a guest that was ended does nothing, so an end stays. At most ten reads are counted. The event names what
+    /// the image and the bus have, fewer than 1,048,576 events came before it, and the machine is not stopped.
+    ///
+    /// Only a feed, or a turn that writes to a port, may be refused: the answer is the bus's, which blames a device only where
+    /// that counted a fault in this call. The bus is then as it was, and the machine stands where the event had come to, with
+    /// the vcpu before its instruction, and is stopped.
+    pub fn event<L: Ledger>(
+        &mut self,
+        event: Event,
+        bus: &mut Bus,
+        steps: &mut Steps<L>,
+    ) -> Result<Effect, RunEnd>
+        requires named { IsNamed (world_shape self.old.world) event }
+        requires few { self.old.world.event < 1048576 }
+        requires going { self.old.stopped ≡ false }
+        ensures world { OnOk result (self.new.world ≡ (plain_event self.old.world (⟦<Bus as BusState>⟧.bus bus.old) event).world) }
+        ensures bus { OnOk result (⟦<Bus as BusState>⟧.bus bus.new ≡ (plain_event self.old.world (⟦<Bus as BusState>⟧.bus bus.old) event).bus) }
+        ensures effect { IfOk result (λ effect. effect ≡ (plain_event self.old.world (⟦<Bus as BusState>⟧.bus bus.old) event).effect) }
+        ensures stopped { self.new.stopped ≡ is_err result }
+        ensures reached { OnErr result (self.new.world ≡ reached self.old.world (⟦<Bus as BusState>⟧.bus bus.old) event) }
+        ensures kept { OnErr result (⟦<Bus as BusState>⟧.bus bus.new ≡ ⟦<Bus as BusState>⟧.bus bus.old) }
+        ensures hands_over { OnErr result (HandsOver self.old.world (⟦<Bus as BusState>⟧.bus bus.old) event) }
+        ensures blamed { IfErr result (λ end. Blames end (⟦<Bus as BusState>⟧.faults bus.old) (⟦<Bus as BusState>⟧.faults bus.new)) }
+        ensures shape { world_shape self.new.world ≡ world_shape self.old.world }
+        ensures number { OnOk result (self.new.world.event ≡ self.old.world.event + 1) }
+        ensures steps { steps.new ≤ steps.old + 10 }
+        ensures later { steps.old ≤ steps.new }
+    {
+        match self.happen(event, bus, steps) {
+            Ok(effect) => Ok(effect),
+            Err(end) => {
+                self.stopped = true;
+                Err(end)
+            }
+        }
+    }
+
+    /// Whether the machine is stopped, since the bus refused what an event handed it. It then takes no event.
+    pub fn is_stopped(&self) -> bool
+        ensures { result ≡ self.now.stopped }
+    {
+        self.stopped
     }
 
     /// The registers of a vcpu, which the image has to have.
     #[tactic(auto, using(crate::proofs::Singles::singles))]
     pub fn registers(&self, vcpu: VcpuId) -> &Registers
-        requires { IsVcpu (world_shape self.now) vcpu }
-        ensures { option_map (λ v. v.registers) (vcpu_in self.now vcpu) ≡ Some result.now }
+        requires { IsVcpu (world_shape self.now.world) vcpu }
+        ensures { option_map (λ v. v.registers) (vcpu_in self.now.world vcpu) ≡ Some result.now }
     {
         let _ = vcpu;
         &self.vcpu.registers
@@ -167,7 +294,7 @@ impl PlainMachine {
 
     /// The level of a vcpu, which the image has to have: 1, as no vcpu runs a guest of its own.
     pub fn level(&self, vcpu: VcpuId) -> u8
-        requires { IsVcpu (world_shape self.now) vcpu }
+        requires { IsVcpu (world_shape self.now.world) vcpu }
         ensures { result ≡ 1 }
     {
         let _ = vcpu;
@@ -177,8 +304,8 @@ impl PlainMachine {
     /// Whether a vcpu, which the image has to have, is halted.
     #[tactic(auto, using(crate::proofs::Singles::singles))]
     pub fn is_halted(&self, vcpu: VcpuId) -> bool
-        requires { IsVcpu (world_shape self.now) vcpu }
-        ensures { option_map (λ v. v.halted) (vcpu_in self.now vcpu) ≡ Some result }
+        requires { IsVcpu (world_shape self.now.world) vcpu }
+        ensures { option_map (λ v. v.halted) (vcpu_in self.now.world vcpu) ≡ Some result }
     {
         let _ = vcpu;
         self.vcpu.halted
@@ -187,8 +314,8 @@ impl PlainMachine {
     /// The end of a guest, which the image has to have.
     #[tactic(auto, using(crate::proofs::Singles::singles))]
     pub fn end_of(&self, guest: GuestId) -> Option<Ended>
-        requires { guest.0 < length self.now.guests }
-        ensures { option_map (λ g. g.ended) (guest_in self.now guest) ≡ Some result }
+        requires { guest.0 < length self.now.world.guests }
+        ensures { option_map (λ g. g.ended) (guest_in self.now.world guest) ≡ Some result }
     {
         let _ = guest;
         self.ended
@@ -196,7 +323,7 @@ impl PlainMachine {
 
     /// How many events there were.
     pub fn event_number(&self) -> u32
-        ensures { result ≡ self.now.event }
+        ensures { result ≡ self.now.world.event }
     {
         self.event
     }
@@ -210,8 +337,8 @@ impl PlainMachine {
         address: u64,
         steps: &mut Steps<L>,
     ) -> Result<u8, OutsideMemory>
-        requires { guest.0 < length self.now.guests }
-        ensures byte { IfSome (guest_in self.now guest) (λ g. MatchResult (bytes_at g.memory address 1)
+        requires { guest.0 < length self.now.world.guests }
+        ensures byte { IfSome (guest_in self.now.world guest) (λ g. MatchResult (bytes_at g.memory address 1)
             (λ bytes. IfOk result (λ byte. byte ∷ [] ≡ bytes))
             (λ outside. result ≡ Err outside)) }
         ensures steps { steps.new ≡ steps.old + 1 }
@@ -228,9 +355,10 @@ impl PlainMachine {
     pub fn open(alloc: Global, image: &Image) -> Result<PlainMachine, NoMemory>
         requires lawful { IsLawfulImage image.now }
         requires offered { is_offered image.now ≡ true }
-        ensures world { IfOk result (λ machine. machine ≡ world_of image.now) }
-        ensures shape { IfOk result (λ machine. world_shape machine ≡ image_shape image.now) }
-        ensures number { IfOk result (λ machine. machine.event ≡ 0) }
+        ensures world { IfOk result (λ machine. machine.world ≡ world_of image.now) }
+        ensures going { IfOk result (λ machine. machine.stopped ≡ false) }
+        ensures shape { IfOk result (λ machine. world_shape machine.world ≡ image_shape image.now) }
+        ensures number { IfOk result (λ machine. machine.world.event ≡ 0) }
     {
         let guest = &image.guests[0];
         let registers = guest.vcpus[0];
@@ -247,6 +375,7 @@ impl PlainMachine {
             ended: None,
             placed: None,
             event: 0,
+            stopped: false,
         })
     }
 }

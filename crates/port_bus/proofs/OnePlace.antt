@@ -6,8 +6,10 @@ use Rattle.std.proofs.Math.Seq.{map-set_same}
 use Rattle.std.proofs.lemmas.Option.{slice_get-map, slice_get-get_or}
 use Rattle.std.specs.Option.{option_map}
 use Rattle.svm_model.specs.Bus.{Bus, Device, plugged_at, device_at, device_of, on_device, sent_to, bus_after_write}
+use Rattle.svm_model.specs.declared.names.RunEnd.{RunEnd}
+use Rattle.svm_model.specs.declared.names.RunEnd.TheVariants.{Device as Blamed, NoMemory as WantOfMemory}
 use Rattle.svm_model.specs.declared.ports.PortWrite.{PortWrite}
-use Rattle.port_bus.specs.Causes.{Rose, NoneFell, HasCause, count_at, end_of}
+use Rattle.port_bus.specs.Causes.{Rose, NoneFell, HasCause, Blames, count_at, end_of}
 use Rattle.port_bus.specs.declared.answers.DeviceRefusal.{DeviceRefusal}
 use Rattle.port_bus.specs.declared.answers.DeviceRefusal.TheVariants.{Failed, NoMemory}
 
@@ -90,3 +92,9 @@ pub port_in_none : (bus : Bus) (port : ℕ) → 256 ≤ port → device_of bus p
 port_in_none bus port high =
     let test : nat_lt port 256 ≡ false = grind (arith, nat_tests, high) in
     ap (λ t. cond t (device_at bus (port / 16)) None) test
+
+-- an answer that blames the device of a place blames that device
+pub blamed_by : (end : RunEnd) (place : ℕ) (before now : List ℕ) → HasCause end place before now → Blames end before now
+blamed_by (Blamed device) place before now h =
+    let P : ℕ → Type 0 = λ p. Rose (count_at before p) (count_at now p) in subst P (sym h.0) h.1
+blamed_by WantOfMemory place before now h = tt

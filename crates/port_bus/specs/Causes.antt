@@ -22,6 +22,11 @@ abbrev pub HasCause : RunEnd → ℕ → List ℕ → List ℕ → Type 0
 HasCause (Device device) place before now = (device ≡ place) × Rose (count_at before place) (count_at now place)
 HasCause WantOfMemory place before now = Unit {0}
 
+-- an answer that blames a device has a cause: that device's count rose
+abbrev pub Blames : RunEnd → List ℕ → List ℕ → Type 0
+Blames (Device device) before now = Rose (count_at before device) (count_at now device)
+Blames WantOfMemory before now = Unit {0}
+
 -- what a refusal of a device means for a run
 abbrev pub end_of : DeviceRefusal → ℕ → RunEnd
 end_of Failed device = Device device

@@ -2,7 +2,7 @@
 ghost use Rattle.std.specs.Prelude.{◌≡◌, ◌<◌, ◌/◌, Some, [], map, length, is_some, slice_set, IfOk, OnOk, OnErr, IfErr};
 ghost use Rattle.std.specs.Option.{option_map};
 ghost use Rattle.svm_model.specs.Bus.{device_of, device_at, value_read, on_device, sent_to, bus_after_read, bus_after_write, bus_after_feed, bus_after_unplug};
-ghost use Rattle.port_bus.specs.Causes.{NoneFell, HasCause, end_of};
+ghost use Rattle.port_bus.specs.Causes.{NoneFell, HasCause, Blames, end_of};
 ghost use Rattle.port_bus.specs.Places.{IsWidth, faults_of};
 
 use crate::answers::DeviceRefusal;
@@ -67,6 +67,7 @@ impl Bus {
         ensures kept { OnErr result (⟦<Bus as BusState>⟧.bus self.new ≡ ⟦<Bus as BusState>⟧.bus self.old) }
         ensures later { NoneFell (⟦<Bus as BusState>⟧.faults self.old) (⟦<Bus as BusState>⟧.faults self.new) }
         ensures cause { IfErr result (λ end. HasCause end device (⟦<Bus as BusState>⟧.faults self.old) (⟦<Bus as BusState>⟧.faults self.new)) }
+        ensures blamed { IfErr result (λ end. Blames end (⟦<Bus as BusState>⟧.faults self.old) (⟦<Bus as BusState>⟧.faults self.new)) }
     {
         let place = &mut self.places[usize::from(device)];
         match place.feed(value) {
@@ -114,6 +115,7 @@ impl Bus {
         ensures kept { OnErr result (⟦<Bus as BusState>⟧.bus self.new ≡ ⟦<Bus as BusState>⟧.bus self.old) }
         ensures later { NoneFell (⟦<Bus as BusState>⟧.faults self.old) (⟦<Bus as BusState>⟧.faults self.new) }
         ensures cause { IfErr result (λ end. HasCause end (port / 16) (⟦<Bus as BusState>⟧.faults self.old) (⟦<Bus as BusState>⟧.faults self.new)) }
+        ensures blamed { IfErr result (λ end. Blames end (⟦<Bus as BusState>⟧.faults self.old) (⟦<Bus as BusState>⟧.faults self.new)) }
     {
         // The room comes first, since what a device was sent cannot be taken back.
         if self.output.reserve(1).is_err() {
@@ -140,6 +142,7 @@ impl Bus {
         ensures output { self.new.output ≡ self.old.output }
         ensures later { NoneFell (⟦<Bus as BusState>⟧.faults self.old) (⟦<Bus as BusState>⟧.faults self.new) }
         ensures cause { IfErr result (λ end. HasCause end (port / 16) (⟦<Bus as BusState>⟧.faults self.old) (⟦<Bus as BusState>⟧.faults self.new)) }
+        ensures blamed { IfErr result (λ end. Blames end (⟦<Bus as BusState>⟧.faults self.old) (⟦<Bus as BusState>⟧.faults self.new)) }
     {
         if port >= 0x100 {
             return Ok(());
