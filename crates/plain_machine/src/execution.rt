@@ -87,7 +87,7 @@ fn read_port(bus: &mut Bus, vcpu: &mut Vcpu, row: &Row, length: u8) -> Stepped
 }
 
 /// OUT imm8, AL. Where the bus refuses the write the vcpu stands before it.
-#[tactic(auto, using(svm_model::proofs::BusLemmas::buses))]
+#[tactic(auto, using(svm_model::proofs::BusLemmas::buses, port_bus::proofs::Counts::counts))]
 fn write_port(
     bus: &mut Bus,
     facts: Facts,
@@ -119,6 +119,7 @@ fn write_port(
 }
 
 /// What the row of an instruction does.
+#[tactic(auto, using(port_bus::proofs::Counts::counts))]
 pub fn execute(
     bus: &mut Bus,
     facts: Facts,

@@ -57,6 +57,7 @@ fn joined<L: Ledger>(
 }
 
 /// What fifteen bytes decode to is done.
+#[tactic(auto, using(port_bus::proofs::Counts::counts))]
 fn finish(
     bus: &mut Bus,
     facts: Facts,
@@ -121,7 +122,7 @@ fn whole_page<L: Ledger>(
 }
 
 /// The instruction goes on in the next page.
-#[tactic(auto, using(svm_model::proofs::WindowLemmas::windows), unfolding(svm_model::specs::Instruction::next_page))]
+#[tactic(auto, using(svm_model::proofs::WindowLemmas::windows, port_bus::proofs::Counts::counts), unfolding(svm_model::specs::Instruction::next_page))]
 fn next_page<L: Ledger>(
     memory: &mut HostMemory,
     window: GuestWindow,
@@ -176,7 +177,7 @@ fn on_apic(address: u64) -> Stepped
 }
 
 /// The bytes of the first page are decoded: the instruction is done, or goes on in the next page.
-#[tactic(auto, using(svm_model::proofs::WindowLemmas::windows))]
+#[tactic(auto, using(svm_model::proofs::WindowLemmas::windows, port_bus::proofs::Counts::counts))]
 fn after_front<L: Ledger>(
     memory: &mut HostMemory,
     window: GuestWindow,
@@ -255,7 +256,7 @@ fn front_page<L: Ledger>(
 
 /// The turn of the instruction at RIP: it is fetched, decoded and done. At most ten reads are counted. Where the bus refuses
 /// what the instruction writes to a port, the vcpu stands before it, and the answer is the bus's.
-#[tactic(auto, using(svm_model::proofs::WindowLemmas::windows), unfolding(svm_model::specs::Instruction::instruction))]
+#[tactic(auto, using(svm_model::proofs::WindowLemmas::windows, port_bus::proofs::Counts::counts), unfolding(svm_model::specs::Instruction::instruction))]
 pub fn instruction<L: Ledger>(
     memory: &mut HostMemory,
     window: GuestWindow,

@@ -3,7 +3,7 @@ ghost use Rattle.std.specs.Prelude.{◌≡◌, ℕ, ◌+◌, ◌*◌, ◌%◌, �
 ghost use Rattle.std.specs.Option.{option_map};
 ghost use Rattle.svm_model.specs.Bytes.{IsWithin, guest_of, bytes_at};
 ghost use Rattle.svm_model.specs.Image.{Image as ImageRecord, IsLawfulImage, IsLawfulGuest};
-ghost use Rattle.svm_model.specs.World.{World, world_of, first_guest, plain_event, plain_turn, turn_of, placed, next_event, reached, world_shape, image_shape, is_offered, HandsOver, IsNamed, IsVcpu};
+ghost use Rattle.svm_model.specs.World.{World, world_of, first_guest, plain_event, plain_turn, turn_of, placed, next_event, reached, world_shape, image_shape, is_offered, EndsStay, HandsOver, IsNamed, IsVcpu};
 ghost use Rattle.port_bus.specs.Causes.{Blames, NoneFell};
 ghost use Rattle.plain_machine.specs.Parts.{WritesOne};
 ghost use Rattle.plain_machine.specs.Single.{first_id, vcpu_in, guest_in, single_world};
@@ -65,7 +65,7 @@ const NOTHING: Effect = Effect {
 
 impl PlainMachine {
     /// A turn of the vcpu. A halted one does nothing, and so does one whose guest was ended.
-    #[tactic(auto, using(svm_model::proofs::WindowLemmas::windows), unfolding(svm_model::specs::World::turned))]
+    #[tactic(auto, using(svm_model::proofs::WindowLemmas::windows, port_bus::proofs::Counts::counts), unfolding(svm_model::specs::World::turned))]
     fn turn<L: Ledger>(
         &mut self,
         bus: &mut Bus,
@@ -142,7 +142,7 @@ impl PlainMachine {
     }
 
     /// A turn of the vcpu that is placed on the processor, or nothing.
-    #[tactic(auto, unfolding(svm_model::specs::World::plain_event, svm_model::specs::World::reached))]
+    #[tactic(auto, using(port_bus::proofs::Counts::counts), unfolding(svm_model::specs::World::plain_event, svm_model::specs::World::reached))]
     fn run<L: Ledger>(
         &mut self,
         cpu: CpuId,
@@ -178,7 +178,7 @@ impl PlainMachine {
     }
 
     /// Feeds a device.
-    #[tactic(auto, unfolding(svm_model::specs::World::plain_event, svm_model::specs::World::reached))]
+    #[tactic(auto, using(port_bus::proofs::Counts::counts), unfolding(svm_model::specs::World::plain_event, svm_model::specs::World::reached))]
     fn feed(&mut self, device: u8, value: u32, bus: &mut Bus) -> Result<Effect, RunEnd>
         requires named { IsNamed (world_shape self.old.world) (Event.Feed device value) }
         requires few { self.old.world.event < 1048576 }
@@ -199,7 +199,7 @@ impl PlainMachine {
     }
 
     /// What an event does, before a refusal of the bus stops the machine.
-    #[tactic(auto, unfolding(svm_model::specs::World::plain_event, svm_model::specs::World::reached))]
+    #[tactic(auto, using(port_bus::proofs::Counts::counts), unfolding(svm_model::specs::World::plain_event, svm_model::specs::World::reached))]
     fn happen<L: Ledger>(
         &mut self,
         event: Event,
@@ -215,6 +215,7 @@ impl PlainMachine {
         ensures kept { OnErr result (⟦<Bus as BusState>⟧.bus bus.new ≡ ⟦<Bus as BusState>⟧.bus bus.old) }
         ensures hands_over { OnErr result (HandsOver self.old.world (⟦<Bus as BusState>⟧.bus bus.old) event) }
         ensures blamed { IfErr result (λ end. Blames end (⟦<Bus as BusState>⟧.faults bus.old) (⟦<Bus as BusState>⟧.faults bus.new)) }
+        ensures none_fell { NoneFell (⟦<Bus as BusState>⟧.faults bus.old) (⟦<Bus as BusState>⟧.faults bus.new) }
         ensures shape { world_shape self.new.world ≡ world_shape self.old.world }
         ensures number { OnOk result (self.new.world.event ≡ self.old.world.event + 1) }
         ensures stopped { self.new.stopped ≡ self.old.stopped }
@@ -244,6 +245,7 @@ impl PlainMachine {
     /// Only a feed, or a turn that writes to a port, may be refused: the answer is the bus's, which blames a device only where
     /// that counted a fault in this call. The bus is then as it was, and the machine stands where the event had come to, with
     /// the vcpu before its instruction, and is stopped.
+    #[tactic(auto, using(svm_model::proofs::EndLemmas::ends))]
     pub fn event<L: Ledger>(
         &mut self,
         event: Event,
@@ -261,6 +263,8 @@ impl PlainMachine {
         ensures kept { OnErr result (⟦<Bus as BusState>⟧.bus bus.new ≡ ⟦<Bus as BusState>⟧.bus bus.old) }
         ensures hands_over { OnErr result (HandsOver self.old.world (⟦<Bus as BusState>⟧.bus bus.old) event) }
         ensures blamed { IfErr result (λ end. Blames end (⟦<Bus as BusState>⟧.faults bus.old) (⟦<Bus as BusState>⟧.faults bus.new)) }
+        ensures none_fell { NoneFell (⟦<Bus as BusState>⟧.faults bus.old) (⟦<Bus as BusState>⟧.faults bus.new) }
+        ensures ends_stay { EndsStay self.old.world self.new.world }
         ensures shape { world_shape self.new.world ≡ world_shape self.old.world }
         ensures number { OnOk result (self.new.world.event ≡ self.old.world.event + 1) }
         ensures steps { steps.new ≤ steps.old + 10 }

@@ -1,9 +1,9 @@
 // The bus: sixteen places for devices, and what goes out by ports.
-ghost use Rattle.std.specs.Prelude.{◌≡◌, ◌<◌, ◌/◌, Some, [], map, length, is_some, slice_set, IfOk, OnOk, OnErr, IfErr};
+ghost use Rattle.std.specs.Prelude.{◌≡◌, ◌<◌, ◌/◌, Some, None, [], map, length, is_some, slice_set, IfOk, OnOk, OnErr, IfErr};
 ghost use Rattle.std.specs.Option.{option_map};
 ghost use Rattle.svm_model.specs.Bus.{device_of, device_at, value_read, on_device, sent_to, bus_after_read, bus_after_write, bus_after_feed, bus_after_unplug};
 ghost use Rattle.port_bus.specs.Causes.{NoneFell, HasCause, Blames, end_of};
-ghost use Rattle.port_bus.specs.Places.{IsWidth, faults_of};
+ghost use Rattle.port_bus.specs.Places.{IsWidth};
 
 use crate::answers::DeviceRefusal;
 use crate::device::PortDevice;
@@ -26,7 +26,7 @@ pub struct Bus {
 impl BusState for Bus {
     ghost bus = { λ b. record { devices = map (λ p. option_map (λ d. (PortDevice-box d).device d.value) p.plug) b.places.items; output = b.output.items } };
 
-    ghost faults = { λ b. map (λ p. faults_of (option_map (λ d. (PortDevice-box d).faults d.value) p.plug)) b.places.items };
+    ghost faults = { λ b. map (λ p. option_map (λ d. (PortDevice-box d).faults d.value) p.plug) b.places.items };
 }
 
 impl Bus {
@@ -38,7 +38,7 @@ impl Bus {
           devices = map (λ d. Some (device d)) devices.items;
           output = [];
         }) }
-        ensures faults { IfOk result (λ made. ⟦<Bus as BusState>⟧.faults made ≡ map (λ d. faults d) devices.items) }
+        ensures faults { IfOk result (λ made. ⟦<Bus as BusState>⟧.faults made ≡ map (λ d. Some (faults d)) devices.items) }
     {
         let places = devices
             .into_iter()
@@ -159,7 +159,8 @@ impl Bus {
     pub fn unplug(&mut self, device: u8)
         requires { device < 16 }
         ensures bus { ⟦<Bus as BusState>⟧.bus self.new ≡ bus_after_unplug (⟦<Bus as BusState>⟧.bus self.old) device }
-        ensures faults { ⟦<Bus as BusState>⟧.faults self.new ≡ slice_set (⟦<Bus as BusState>⟧.faults self.old) device 0 }
+        ensures faults { ⟦<Bus as BusState>⟧.faults self.new ≡ slice_set (⟦<Bus as BusState>⟧.faults self.old) device None }
+        ensures later { NoneFell (⟦<Bus as BusState>⟧.faults self.old) (⟦<Bus as BusState>⟧.faults self.new) }
     {
         let place = &mut self.places[usize::from(device)];
         place.unplug();

@@ -1,4 +1,5 @@
 pub mod BusLemmas
+pub mod EndLemmas
 pub mod PutLemmas
 pub mod WalkLemmas
 pub mod WindowLemmas

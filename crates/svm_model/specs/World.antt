@@ -190,6 +190,16 @@ HandsOver w bus (Run cpu) = length (plain_event w bus (Run cpu)).bus.output ≡ 
 HandsOver w bus (Feed device value) = Unit {0}
 HandsOver w bus (Unplug device) = ⊥
 
+-- the end of a guest, where it was ended
+abbrev pub end_of_guest : Option Guest → Option Ended
+end_of_guest None = None
+end_of_guest (Some guest) = guest.ended
+
+-- an end that was given stays
+abbrev pub EndsStay : World → World → Type 0
+EndsStay old new =
+    (guest : ℕ) (e : Ended) → end_of_guest (slice_get old.guests guest) ≡ Some e → end_of_guest (slice_get new.guests guest) ≡ Some e
+
 -- what a run leads to
 pub record Led : Type 0 where
   pub world : World

@@ -1,18 +1,39 @@
--- The events that are left.
-use Rattle.std.proofs.lemmas.List.{drop_all}
-use Rattle.std.proofs.Common.{◌≡◌, ℕ, zero, suc, ◌+◌, List, [], ◌∷◌, Some, drop, length, slice_get, ap, add-one, arith}
+-- The run of a script's first events.
+use Rattle.std.proofs.Common.{◌≡◌, ◌∙◌, ℕ, zero, suc, ◌+◌, List, [], ◌∷◌, ◌++◌, Some, take, length, slice_get, ap, sym, refl, arith, add-one}
+use Rattle.std.proofs.lemmas.List.{take_all}
+use Rattle.svm_model.specs.Bus.{Bus}
+use Rattle.svm_model.specs.World.{World, Led, plain_event, plain_run}
+use Rattle.svm_model.specs.declared.names.Event.{Event}
 
-next-suc : {A : Type 0} (events : List A) (n : ℕ) (e : A) → slice_get events n ≡ Some e → drop n events ≡ e ∷ drop (suc n) events
-next-suc [] n e h = absurd (cc)
-next-suc (x ∷ events) zero e h = let same : x ≡ e = cc in ap (λ y. y ∷ events) same
-next-suc (x ∷ events) (suc n) e h = next-suc events n e h
+-- what an event makes of what a run led to
+abbrev pub led_on : Led → Event → Led
+led_on led event = record { world = (plain_event led.world led.bus event).world; bus = (plain_event led.world led.bus event).bus }
 
--- the event of a number is the first of those from it on
-pub next : {A : Type 0} (events : List A) (n : ℕ) (e : A) → slice_get events n ≡ Some e → drop n events ≡ e ∷ drop (n + 1) events
-next events n e h = rw add-one (next-suc events n e h)
+one_more : (w : World) (bus : Bus) (events : List Event) (event : Event) → plain_run w bus (events ++ event ∷ []) ≡ led_on (plain_run w bus events) event
+one_more w bus [] event = refl
+one_more w bus (e ∷ events) event = one_more (plain_event w bus e).world (plain_event w bus e).bus events event
 
--- behind the last event is none
-pub past-last : {A : Type 0} (events : List A) (n : ℕ) → length events ≡ n → drop n events ≡ []
-past-last events n h = drop_all n events (omega arith)
+taken-suc : {A : Type 0} (xs : List A) (n : ℕ) (x : A) → slice_get xs n ≡ Some x → take (suc n) xs ≡ take n xs ++ x ∷ []
+taken-suc [] n x h = absurd (cc)
+taken-suc (y ∷ xs) zero x h = let same : y ≡ x = cc in ap (λ z. z ∷ []) same
+taken-suc (y ∷ xs) (suc n) x h = ap (λ zs. y ∷ zs) (taken-suc xs n x h)
 
-pub ruleset events = (next, past-last)
+-- a world and a bus
+abbrev pub led : World → Bus → Led
+led w bus = record { world = w; bus = bus }
+
+pub led_same : (v w : World) (a b : Bus) → v ≡ w → a ≡ b → led v a ≡ led w b
+led_same v w a b e f = ap (λ u. led u a) e ∙ ap (λ c. led w c) f
+
+-- the run of one event more
+pub led_next : (w : World) (bus : Bus) (events : List Event) (n : ℕ) (event : Event) (led : Led) → plain_run w bus (take n events) ≡ led → slice_get events n ≡ Some event →
+    plain_run w bus (take (n + 1) events) ≡ led_on led event
+led_next w bus events n event led h there =
+    ap (λ k. plain_run w bus (take k events)) (add-one n) ∙ ap (λ es. plain_run w bus es) (taken-suc events n event there)
+    ∙ one_more w bus (take n events) event ∙ ap (λ (l : Led). led_on l event) h
+
+-- the run of all events
+pub led_all : (w : World) (bus : Bus) (events : List Event) (n : ℕ) (led : Led) → plain_run w bus (take n events) ≡ led → length events ≡ n → plain_run w bus events ≡ led
+led_all w bus events n led h whole = ap (λ es. plain_run w bus es) (sym (take_all n events (omega arith))) ∙ h
+
+pub ruleset events = (led_next, led_all)

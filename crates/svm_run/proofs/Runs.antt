@@ -1,18 +1,59 @@
--- How many events a run has.
-use Rattle.std.proofs.Common.{◌≡◌, ◌∙◌, ℕ, ◌+◌, ◌*◌, ◌≤◌, ap, sym, subst}
+-- What a run of all events leads to, and how many there are.
+use Rattle.std.proofs.Common.{◌≡◌, ◌∙◌, ℕ, ◌+◌, ◌*◌, ◌≤◌, List, length, take, ap, refl, sym, subst, arith}
+use Rattle.std.proofs.Math.Seq.{take-length}
+use Rattle.svm_model.specs.Bus.{Bus}
 use Rattle.svm_model.specs.Image.{Image}
 use Rattle.svm_model.specs.Script.{Script, events_of}
-use Rattle.svm_model.specs.World.{World, world_of, plain_run}
-use Rattle.svm_run.specs.Outcome.{ran, finished}
+use Rattle.svm_model.specs.World.{World, Led, world_of, plain_run}
+use Rattle.svm_model.specs.declared.names.Event.{Event}
+use Rattle.svm_model.proofs.WorldLemmas.{run-counted}
+use Rattle.svm_run.specs.Outcome.{Outcome, bus_after, ran, finished}
+use Rattle.svm_run.proofs.Events.{led, led_same}
 
-events-ran : (image : Image) (script : Script) (first last : World) → first ≡ world_of image → last ≡ plain_run first (events_of script) → last.event ≡ script.events →
-    script.events ≡ (ran image script).events
+led_parts : (l : Led) → led l.world l.bus ≡ l
+led_parts l = refl
+
+-- the machine and the bus stand where the run leads
+pub led-ran : (w v : World) (bus now : Bus) (image : Image) (script : Script) → w ≡ world_of image → v ≡ (plain_run w bus (events_of script)).world →
+    now ≡ (plain_run w bus (events_of script)).bus → finished (led v now) ≡ ran bus image script
+unfolding ran
+led-ran w v bus now image script e f g =
+    ap finished (led_same _ _ _ _ f g ∙ led_parts (plain_run w bus (events_of script)) ∙ ap (λ u. plain_run u bus (events_of script)) e)
+
+starts-at-0 : (image : Image) → (world_of image).event ≡ 0
+unfolding world_of
+starts-at-0 image = refl
+
+-- a run has the script's events
+events-ran : (bus : Bus) (image : Image) (script : Script) → length (events_of script) ≡ script.events → (ran bus image script).events ≡ script.events
 unfolding ran finished
-events-ran image script first last e f n =
-    sym n ∙ ap (λ (w : World). w.event) f ∙ ap (λ (w : World). (plain_run w (events_of script)).event) e
+events-ran bus image script whole =
+    omega (arith, run-counted (world_of image) bus (events_of script), starts-at-0 image, whole)
 
 -- ten reads at most for each event
-pub reads-ran : (old new : ℕ) (image : Image) (script : Script) (first last : World) → first ≡ world_of image → last ≡ plain_run first (events_of script) → last.event ≡ script.events →
-    new ≤ old + 10 * script.events → new ≤ old + 10 * (ran image script).events
-reads-ran old new image script first last e f n h =
-    let P : ℕ → Type 0 = λ count. new ≤ old + 10 * count in subst P (events-ran image script first last e f n) h
+pub reads-ran : (old new : ℕ) (bus : Bus) (image : Image) (script : Script) → length (events_of script) ≡ script.events → new ≤ old + 10 * script.events →
+    new ≤ old + 10 * (ran bus image script).events
+reads-ran old new bus image script whole h =
+    let P : ℕ → Type 0 = λ count. new ≤ old + 10 * count in
+    subst P (sym (events-ran bus image script whole)) h
+
+-- The bus behind some first events.
+
+pub bus-none : (bus : Bus) (image : Image) (script : Script) → bus ≡ bus_after 0 bus image script
+unfolding bus_after
+bus-none bus image script = refl
+
+pub bus-some : (w : World) (bus now : Bus) (image : Image) (script : Script) (count : ℕ) → w ≡ world_of image → now ≡ (plain_run w bus (take count (events_of script))).bus →
+    now ≡ bus_after count bus image script
+unfolding bus_after
+bus-some w bus now image script count e g = g ∙ ap (λ u. (plain_run u bus (take count (events_of script))).bus) e
+
+pub bus-all : (w : World) (bus now : Bus) (image : Image) (script : Script) → w ≡ world_of image → now ≡ (plain_run w bus (events_of script)).bus →
+    now ≡ bus_after (length (events_of script)) bus image script
+bus-all w bus now image script e g =
+    bus-some w bus now image script (length (events_of script)) e
+    (g ∙ ap (λ (es : List Event). (plain_run w bus es).bus) (sym (take-length (events_of script))))
+
+pub bus-finished : (v : World) (now : Bus) → now ≡ (finished (led v now)).bus
+unfolding finished
+bus-finished v now = refl

@@ -2,8 +2,8 @@
 //!
 //! `svm_run run IMAGE SCRIPT` reads an image and a script, runs the script's events on the plain machine, and prints the
 //! report. The job itself is `svm_run` in `top.rt`, over any shelf of files and any sink of bytes: its contract compares
-//! every answer and every printed byte with one definition, `outcome_of` in `specs/Outcome.antt`. `main` makes the real
-//! files, the real output and the counters, calls it, and ends with the status's exit code.
+//! every answer, every printed byte and the bus with one definition, `outcome_of` in `specs/Outcome.antt`. `main` makes the
+//! real files, the bus and its devices, the real output and the counters, calls it, and ends with the status's exit code.
 #![tactic(auto)]
 
 ghost use Rattle.std.specs.Prelude.{◌≡◌, ◌<◌};
@@ -18,6 +18,7 @@ mod words;
 
 use byte_shelf::{FileShelf, StdSink};
 use host_memory::counted_from;
+use port_bus::{Bus, FileDevice, MemoryDevice, PortDevice};
 use status::Status;
 use std::alloc::{AllocError, Global};
 use std::env;
@@ -52,14 +53,32 @@ fn run_words(rt: HostRuntime, words: Vec<String>) -> Status {
     }
 }
 
+/// The device that is a file; those before it are in memory.
+const FILE_DEVICE: u8 = 15;
+
+/// The file of that device.
+const DEVICE_FILE: &str = "port15.out";
+
+/// Makes the shelf, the sink, and the bus of fifteen devices in memory, which never fail, and one over a file.
 fn open(rt: &HostRuntime, words: &Vec<String>) -> Result<Status, AllocError> {
-    let words: Vec<&str> = words.iter().map(|w| w.as_str()).collect(rt.alloc())?;
+    let alloc = rt.alloc();
+    let words: Vec<&str> = words.iter().map(|w| w.as_str()).collect(alloc)?;
+    let mut devices: Vec<Box<dyn PortDevice>> = Vec::new(alloc);
+    for _place in 0..FILE_DEVICE {
+        devices.push(Box::new(alloc, MemoryDevice::new(alloc, Vec::new(alloc)))?)?;
+    }
+    let name = String::from_str(alloc, DEVICE_FILE)?;
+    devices.push(Box::new(alloc, FileDevice::new(rt.clone()?, alloc, name))?)?;
+    let Ok(bus) = Bus::new(alloc, devices) else {
+        return Ok(Status::NoMemory);
+    };
     let shelf = FileShelf::new(rt.clone()?);
     let sink = StdSink::new(rt.clone()?);
     Ok(run::<Brand, Brand>(
-        rt.alloc(),
+        alloc,
         &words,
         shelf,
+        bus,
         sink,
         Blank::new(1),
         Blank::new(1),
@@ -71,6 +90,7 @@ fn run<L: Ledger, M: Ledger>(
     alloc: Global,
     words: &[&str],
     mut shelf: FileShelf<HostRuntime>,
+    mut bus: Bus,
     mut sink: StdSink<HostRuntime>,
     reads: Blank,
     entries: Blank,
@@ -88,6 +108,7 @@ fn run<L: Ledger, M: Ledger>(
         alloc,
         words,
         &mut shelf,
+        &mut bus,
         &mut sink,
         &mut steps,
         &mut entries,

@@ -1,37 +1,46 @@
 // Runs a script's events on the machine.
-ghost use Rattle.std.specs.Prelude.{◌≡◌, ◌+◌, ◌*◌, ◌≤◌, ◌<◌, length};
+ghost use Rattle.std.specs.Prelude.{◌≡◌, ℕ, ◌+◌, ◌*◌, ◌≤◌, false, length, take, OnOk, OnErr, IfErr};
 ghost use Rattle.svm_model.specs.Script.{IsLawful, events_of};
 ghost use Rattle.svm_model.specs.World.{world_shape, plain_run};
+ghost use Rattle.port_bus.specs.Causes.{Blames, NoneFell};
 
 use host_memory::Steps;
 use plain_machine::PlainMachine;
+use port_bus::{Bus, BusState, RunEnd};
 use script_format::Script;
 use std::sync::ledger::Ledger;
 
-/// Runs all events of a script. Ten reads at most are counted for each.
-#[tactic(auto, using(crate::proofs::Events::events))]
+/// Runs the events of a script, all of them or up to the first that the bus refuses. Ten reads at most are counted for each.
+#[tactic(auto, using(crate::proofs::Events::events, port_bus::proofs::Counts::counts))]
 pub fn run_events<L: Ledger>(
     machine: &mut PlainMachine,
     script: &Script,
     cpus: u8,
+    bus: &mut Bus,
     steps: &mut Steps<L>,
-)
-    requires lawful { IsLawful (world_shape machine.old) script.now }
-    requires cpus { (world_shape machine.old).cpus ≡ cpus }
+) -> Result<(), RunEnd>
+    requires lawful { IsLawful (world_shape machine.old.world) script.now }
+    requires cpus { (world_shape machine.old.world).cpus ≡ cpus }
     requires count { length (events_of script.now) ≡ script.now.events }
-    requires first { machine.old.event ≡ 0 }
-    ensures world { machine.new ≡ plain_run machine.old (events_of script.now) }
-    ensures shape { world_shape machine.new ≡ world_shape machine.old }
-    ensures number { machine.new.event ≡ script.now.events }
+    requires first { machine.old.world.event ≡ 0 }
+    requires going { machine.old.stopped ≡ false }
+    ensures world { OnOk result (machine.new.world ≡ (plain_run machine.old.world (⟦<Bus as BusState>⟧.bus bus.old) (events_of script.now)).world) }
+    ensures bus { OnOk result (⟦<Bus as BusState>⟧.bus bus.new ≡ (plain_run machine.old.world (⟦<Bus as BusState>⟧.bus bus.old) (events_of script.now)).bus) }
+    ensures cut { OnErr result ((count : ℕ) ×
+        (⟦<Bus as BusState>⟧.bus bus.new ≡ (plain_run machine.old.world (⟦<Bus as BusState>⟧.bus bus.old) (take count (events_of script.now))).bus)) }
+    ensures blamed { IfErr result (λ end. Blames end (⟦<Bus as BusState>⟧.faults bus.old) (⟦<Bus as BusState>⟧.faults bus.new)) }
+    ensures shape { world_shape machine.new.world ≡ world_shape machine.old.world }
+    ensures number { OnOk result (machine.new.world.event ≡ script.now.events) }
     ensures steps { steps.new ≤ steps.old + 10 * script.now.events }
     ensures later { steps.old ≤ steps.new }
 {
     for number in 0..script.events {
         match script.event_at(number, cpus) {
             Some(event) => {
-                machine.event(event, steps);
+                machine.event(event, bus, steps)?;
             }
             None => unreachable!(),
         }
     }
+    Ok(())
 }

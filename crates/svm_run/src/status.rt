@@ -23,6 +23,8 @@ pub enum OutsideFault {
     Read,
     /// Writing the output.
     Write,
+    /// A device of the port bus, 0 to 15.
+    Device { device: u8 },
 }
 
 /// How a run of the program ends.

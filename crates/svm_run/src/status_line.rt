@@ -2,7 +2,7 @@
 ghost use Rattle.std.specs.Prelude.{◌≡◌, ◌+◌, ◌≤◌, ◌++◌, [], length, codes};
 ghost use Rattle.std.specs.Fmt.{decimal};
 ghost use Rattle.svm_model.specs.Text.{◌⧺◌, newline, image_reason_name as image_name, script_reason_name as script_name};
-ghost use Rattle.svm_run.specs.StatusLine.{image_line, script_line, status_line};
+ghost use Rattle.svm_run.specs.StatusLine.{device_line, image_line, script_line, status_line};
 
 use crate::status::{InputFault, OutsideFault, Status};
 use arrayvec::ArrayString;
@@ -43,6 +43,18 @@ fn line_of_script(line: u32, reason: ScriptReason) -> Line
     reason_line("refused script line=", line, script_reason_name(reason))
 }
 
+#[tactic(auto, unfolding(crate::specs::StatusLine::device_line))]
+fn line_of_device(device: u8) -> Line
+    ensures { result.bytes ≡ device_line device }
+{
+    let mut buffer = Buffer::new();
+    let mut line = Line::new();
+    line.push_str("fault device ");
+    line.push_str(buffer.format(device));
+    line.push_str("\n");
+    line
+}
+
 /// A line of a text alone.
 fn plain_line(text: &str) -> Line
     requires { length text.now ≤ 40 }
@@ -68,6 +80,7 @@ pub fn line_of(status: Status) -> Line
         Status::Input(InputFault::Image { place, reason }) => line_of_image(place, reason),
         Status::Input(InputFault::Script { line, reason }) => line_of_script(line, reason),
         Status::OutsideFault(OutsideFault::Read) => plain_line("fault read\n"),
+        Status::OutsideFault(OutsideFault::Device { device }) => line_of_device(device),
         Status::NoMemory => plain_line("no memory\n"),
         Status::OutsideFault(OutsideFault::Write) | Status::Done | Status::LeftProfile => {
             plain_line("")

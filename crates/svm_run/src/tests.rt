@@ -1,5 +1,5 @@
 // Jobs over a shelf and a sink in memory, some of whose calls fail. The texts are worked out by hand from the formats.
-ghost use Rattle.std.specs.Prelude.{◌≡◌, ◌<◌, true, length};
+ghost use Rattle.std.specs.Prelude.{◌≡◌, ◌<◌, true, false, length};
 ghost use Rattle.svm_model.specs.Image.{IsLawfulImage};
 ghost use Rattle.svm_model.specs.World.{is_offered, single, world_shape};
 
@@ -10,12 +10,14 @@ use byte_shelf::{MemoryShelf, MemorySink};
 use host_memory::{Steps, counted_from};
 use image_format::{Image, ImageReason};
 use plain_machine::PlainMachine;
+use port_bus::{Bus, MemoryDevice, PortDevice};
 use script_format::ScriptReason;
 use std::alloc::{AllocError, Global};
 use std::marker::Brand;
 use std::process::Abort;
 use std::sync::ledger::{Blank, Ledger};
 use std::test::Fail;
+use svm_model::RunEnd;
 use vm_names::{CpuId, Event, GuestId, NoMemory, VcpuId};
 
 /// The header of an image and of its guest: 16 pages, one vcpu, five segments.
@@ -34,7 +36,7 @@ fn push_segment(image: &mut Vec<u8>, address: u16, bytes: &[u8]) -> Result<(), A
 }
 
 /// A job: its words, the vcpu's RIP and the code there, the table entry of linear page 6, the script, and the calls of
-/// the shelf and the sink that fail. Linear page 5 is mapped to frame 5.
+/// the shelf, the sink and device 1 that fail. Linear page 5 is mapped to frame 5.
 #[derive(Clone, Copy)]
 struct Job<'a> {
     words: &'a [&'a str],
@@ -44,6 +46,7 @@ struct Job<'a> {
     script: &'a str,
     shelf_fails: Option<u64>,
     sink_fails: Option<u64>,
+    device_fails: Option<u64>,
 }
 
 /// The image of a job.
@@ -78,6 +81,7 @@ const HALT: Job<'static> = Job {
     script: "place 0 0 0\nrun 0 1\n",
     shelf_fails: None,
     sink_fails: None,
+    device_fails: None,
 };
 
 fn calls(alloc: Global, call: Option<u64>) -> Result<Vec<u64>, AllocError> {
@@ -104,6 +108,7 @@ fn shelf_of(alloc: Global, job: Job<'_>) -> Result<MemoryShelf, AllocError>
 
 /// The status of a job, and what the sink has received.
 fn done<L: Ledger, M: Ledger>(
+    rt: &impl Abort,
     alloc: Global,
     job: Job<'_>,
     reads: Blank,
@@ -119,12 +124,22 @@ fn done<L: Ledger, M: Ledger>(
 {
     let mut shelf = shelf_of(alloc, job)?;
     let mut sink = MemorySink::new(alloc, calls(alloc, job.sink_fails)?);
+    let mut devices: Vec<Box<dyn PortDevice>> = Vec::new(alloc);
+    for device in 0..16u8 {
+        let failing = if device == 1 { job.device_fails } else { None };
+        devices.push(Box::new(alloc, MemoryDevice::new(alloc, calls(alloc, failing)?))?)?;
+    }
+    assert!(rt; devices.len() == 16);
+    let Ok(mut bus) = Bus::new(alloc, devices) else {
+        return Err(AllocError);
+    };
     let mut steps = counted_from::<L>(reads);
     let mut entries = counted_from::<M>(entries);
     let status = svm_run(
         alloc,
         job.words,
         &mut shelf,
+        &mut bus,
         &mut sink,
         &mut steps,
         &mut entries,
@@ -275,11 +290,54 @@ fn jobs_end_as_the_formats_say(rt: HostRuntime) -> Result<(), Fail> {
             Status::LeftProfile,
             "events 2\nguest 0 ended OutsideMemory value=20004 vcpu=0 event=1\nvcpu 0.0 l1 ready rip=6004 rfl=2 cr0=80010033 cr3=1000 cr4=a0 efer=d00\n",
         ),
+        (
+            Job {
+                code: &[0xe4, 0x10, 0xe4, 0x10, 0xf4],
+                script: "place 0 0 0\nfeed 1 7\nrun 0 1\nunplug 1\nrun 0 2\n",
+                ..HALT
+            },
+            Status::Done,
+            "events 6\nguest 0 live\nvcpu 0.0 l1 halted rip=5005 rfl=2 rax=ff cr0=80010033 cr3=1000 cr4=a0 efer=d00\n",
+        ),
+        (
+            Job {
+                code: &[0xe4, 0x1f, 0x48, 0xe6, 0x20, 0xe6, 0xff, 0xf4],
+                script: "place 0 0 0\nfeed 1 0x1f0\nrun 0 4\n",
+                ..HALT
+            },
+            Status::Done,
+            "events 6\nguest 0 live\nvcpu 0.0 l1 halted rip=5008 rfl=2 rax=f0 cr0=80010033 cr3=1000 cr4=a0 efer=d00\nout 0.0 event=3 port=20 width=1 value=f0\nout 0.0 event=4 port=ff width=1 value=f0\n",
+        ),
+        (
+            Job {
+                code: &[0xe6, 0x10, 0xe6, 0x10, 0xf4],
+                script: "place 0 0 0\nrun 0 3\n",
+                device_fails: Some(1),
+                ..HALT
+            },
+            Status::OutsideFault(OutsideFault::Device { device: 1 }),
+            "fault device 1\n",
+        ),
+        (
+            Job {
+                script: "place 0 0 0\nfeed 1 7\n",
+                device_fails: Some(0),
+                ..HALT
+            },
+            Status::OutsideFault(OutsideFault::Device { device: 1 }),
+            "fault device 1\n",
+        ),
     ];
     for (job, status, text) in table {
         let code = job.code;
         assert!(rt; code.len() < 256);
-        let (found, sink) = done::<Brand, Brand>(rt.alloc(), job, Blank::new(1), Blank::new(1))?;
+        let (found, sink) = done::<Brand, Brand>(
+            &rt,
+            rt.alloc(),
+            job,
+            Blank::new(1),
+            Blank::new(1),
+        )?;
         assert!(rt; found == status, "{found:?}");
         assert!(rt; sink.bytes() == text.as_bytes(), "{text}");
     }
@@ -292,20 +350,54 @@ const VCPU: VcpuId = VcpuId {
 };
 
 /// The vcpu is placed and takes a turn.
-fn take_a_turn<L: Ledger>(rt: &impl Abort, machine: &mut PlainMachine, steps: &mut Steps<L>)
-    requires shape { world_shape machine.old ≡ single }
-    requires first { machine.old.event ≡ 0 }
-    ensures { world_shape machine.new ≡ single }
+fn take_a_turn<L: Ledger>(
+    rt: &impl Abort,
+    machine: &mut PlainMachine,
+    bus: &mut Bus,
+    steps: &mut Steps<L>,
+)
+    requires shape { world_shape machine.old.world ≡ single }
+    requires first { machine.old.world.event ≡ 0 }
+    requires going { machine.old.stopped ≡ false }
+    ensures { world_shape machine.new.world ≡ single }
 {
     let cpu = CpuId(0);
-    machine.event(Event::Place { cpu, vcpu: VCPU }, steps);
-    let effect = machine.event(Event::Run { cpu }, steps);
+    let placed = machine.event(Event::Place { cpu, vcpu: VCPU }, bus, steps);
+    assert!(rt; placed.is_ok());
+    let Ok(effect) = machine.event(Event::Run { cpu }, bus, steps) else {
+        panic!(rt; "the turn was refused");
+    };
     assert!(rt; effect.vcpu == Some(VCPU) && effect.ended.is_none());
+}
+
+/// The device of the port fails: the machine stops, and the vcpu stands before the write.
+fn is_refused<L: Ledger>(
+    rt: &impl Abort,
+    machine: &mut PlainMachine,
+    bus: &mut Bus,
+    steps: &mut Steps<L>,
+)
+    requires shape { world_shape machine.old.world ≡ single }
+    requires first { machine.old.world.event ≡ 0 }
+    requires going { machine.old.stopped ≡ false }
+{
+    let cpu = CpuId(0);
+    let placed = machine.event(Event::Place { cpu, vcpu: VCPU }, bus, steps);
+    assert!(rt; placed.is_ok());
+    let Err(end) = machine.event(Event::Run { cpu }, bus, steps) else {
+        panic!(rt; "the turn was not refused");
+    };
+    assert!(rt; end == RunEnd::Device { device: 1 });
+    assert!(rt; machine.is_stopped());
+    assert!(rt; machine.event_number() == 1);
+    assert!(rt; machine.registers(VCPU).rip == 0x5000);
+    assert!(rt; machine.memory_byte(GuestId(0), 0x4028, steps) == Ok(0x27));
+    assert!(rt; bus.output().is_empty());
 }
 
 /// The vcpu has halted, and the entry that its fetch used has its accessed bit.
 fn has_halted<L: Ledger>(rt: &impl Abort, machine: &PlainMachine, steps: &mut Steps<L>)
-    requires { world_shape machine.now ≡ single }
+    requires { world_shape machine.now.world ≡ single }
 {
     assert!(rt; machine.is_halted(VCPU));
     assert!(rt; machine.level(VCPU) == 1);
@@ -319,6 +411,8 @@ fn looked_at<L: Ledger>(
     rt: &impl Abort,
     alloc: Global,
     image: &Image,
+    refused: bool,
+    bus: &mut Bus,
     reads: Blank,
 ) -> Result<(), NoMemory>
     requires lawful { IsLawfulImage image.now }
@@ -329,17 +423,36 @@ fn looked_at<L: Ledger>(
 {
     let mut steps = counted_from::<L>(reads);
     let mut machine = PlainMachine::open(alloc, image)?;
-    take_a_turn(rt, &mut machine, &mut steps);
+    if refused {
+        is_refused(rt, &mut machine, bus, &mut steps);
+        return Ok(());
+    }
+    take_a_turn(rt, &mut machine, bus, &mut steps);
     has_halted(rt, &machine, &mut steps);
     Ok(())
 }
 
 #[test]
 fn a_machine_shows_its_vcpu(rt: HostRuntime) -> Result<(), Fail> {
-    let bytes = image_of(rt.alloc(), HALT)?;
-    let Ok(image) = accept_image(rt.alloc(), &bytes) else {
-        return Err(Fail::from(NoMemory));
+    let alloc = rt.alloc();
+    let write = Job {
+        code: &[0xe6, 0x10],
+        ..HALT
     };
-    looked_at::<Brand>(&rt, rt.alloc(), &image, Blank::new(1))?;
+    for (job, refused) in [(HALT, false), (write, true)] {
+        let code = job.code;
+        assert!(rt; code.len() < 256);
+        let bytes = image_of(alloc, job)?;
+        let Ok(image) = accept_image(alloc, &bytes) else {
+            return Err(Fail::from(NoMemory));
+        };
+        let mut devices: Vec<Box<dyn PortDevice>> = Vec::new(alloc);
+        for _ in 0..16 {
+            devices.push(Box::new(alloc, MemoryDevice::new(alloc, vec![in alloc; 0]?))?)?;
+        }
+        assert!(rt; devices.len() == 16);
+        let mut bus = Bus::new(alloc, devices)?;
+        looked_at::<Brand>(&rt, alloc, &image, refused, &mut bus, Blank::new(1))?;
+    }
     Ok(())
 }

@@ -1,11 +1,11 @@
 // The top call: what the program does with its words.
-ghost use Rattle.std.specs.Prelude.{◌≡◌, ◌⊎◌, ◌≤◌, ◌+◌, ◌*◌, ◌<◌, true, length, map, List, ℕ, Some, None, IfSome, IfErr, IfOk};
+ghost use Rattle.std.specs.Prelude.{◌≡◌, ◌⊎◌, ◌≤◌, ◌+◌, ◌*◌, ◌<◌, true, length, map, List, Option, ℕ, Some, None, IfSome, IfErr, IfOk};
 ghost use Rattle.byte_shelf.specs.Causes.{Rose};
 ghost use Rattle.byte_shelf.specs.Sink.{appended, IsCutShort};
 ghost use Rattle.svm_model.specs.Image.{IsLawfulImage};
 ghost use Rattle.svm_model.specs.Script.{IsLawful, events_of};
 ghost use Rattle.svm_model.specs.World.{image_shape, world_shape, single, is_offered as offered_test};
-ghost use Rattle.svm_run.specs.Outcome.{outcome_of, finished, ran, IsAnswer, IsRun, IsRefusal, ReceivesLine, ReceivesPart};
+ghost use Rattle.svm_run.specs.Outcome.{outcome_of, bus_after, finished, ran, HasDeviceCause, IsAnswer, IsBehindSome, IsRun, IsRefusal, RanAll, RanNone, RanSome, ReceivesLine, ReceivesPart};
 ghost use Rattle.svm_run.specs.StatusLine.{status_line};
 ghost use Rattle.svm_run.specs.Words.{names_of};
 
@@ -19,6 +19,7 @@ use byte_shelf::{Shelf, Sink, SinkRefusal, write_all};
 use host_memory::Steps;
 use image_format::Image;
 use plain_machine::PlainMachine;
+use port_bus::{Bus, BusState, RunEnd};
 use script_format::Script;
 use std::alloc::Global;
 use std::sync::ledger::Ledger;
@@ -44,19 +45,19 @@ fn refuse<K: Sink>(sink: &mut K, status: Status) -> Status
 
 /// Prints the report of a machine that has run all events.
 #[tactic(auto, unfolding(crate::specs::Outcome::finished))]
-fn finish<K: Sink>(alloc: Global, machine: &PlainMachine, sink: &mut K) -> Status
-    requires { world_shape machine.now ≡ single }
-    ensures exact { IsAnswer result → result ≡ (finished machine.now).status }
-    ensures report { IsRun result → K.written sink.new ≡ appended (K.written sink.old) (finished machine.now).text }
+fn finish<K: Sink>(alloc: Global, machine: &PlainMachine, bus: &Bus, sink: &mut K) -> Status
+    requires { world_shape machine.now.world ≡ single }
+    ensures exact { IsAnswer result → result ≡ (finished (record { world = machine.now.world; bus = ⟦<Bus as BusState>⟧.bus bus.now })).status }
+    ensures report { IsRun result → K.written sink.new ≡ appended (K.written sink.old) (finished (record { world = machine.now.world; bus = ⟦<Bus as BusState>⟧.bus bus.now })).text }
     ensures no_line { IsRefusal result → ⊥ }
-    ensures no_words { result ≡ Status.Words → ⊥ }
-    ensures no_read { result ≡ Status.OutsideFault OutsideFault.Read → ⊥ }
+    ensures no_input { RanNone result → ⊥ }
+    ensures no_device { (before now : List (Option ℕ)) → HasDeviceCause before now result }
     ensures write { result ≡ Status.OutsideFault OutsideFault.Write → Rose (K.faults sink.old) (K.faults sink.new) }
-    ensures part { result ≡ Status.OutsideFault OutsideFault.Write → IsCutShort (K.written sink.old) (K.written sink.new) (finished machine.now).text }
-    ensures no_memory { result ≡ Status.NoMemory → ReceivesPart (K.written sink.old) (K.written sink.new) (finished machine.now).text (status_line Status.NoMemory)
+    ensures part { result ≡ Status.OutsideFault OutsideFault.Write → IsCutShort (K.written sink.old) (K.written sink.new) (finished (record { world = machine.now.world; bus = ⟦<Bus as BusState>⟧.bus bus.now })).text }
+    ensures no_memory { result ≡ Status.NoMemory → ReceivesPart (K.written sink.old) (K.written sink.new) (finished (record { world = machine.now.world; bus = ⟦<Bus as BusState>⟧.bus bus.now })).text (status_line Status.NoMemory)
         (Rose (K.faults sink.old) (K.faults sink.new) ⊎ Rose (K.refusals sink.old) (K.refusals sink.new)) }
 {
-    let Ok(text) = report(alloc, machine) else {
+    let Ok(text) = report(alloc, machine, bus.output()) else {
         return refuse(sink, Status::NoMemory);
     };
     match write_all(sink, &text) {
@@ -73,6 +74,7 @@ fn run_job<K: Sink, L: Ledger>(
     alloc: Global,
     image: &Image,
     script: &Script,
+    bus: &mut Bus,
     sink: &mut K,
     steps: &mut Steps<L>,
 ) -> Status
@@ -80,27 +82,35 @@ fn run_job<K: Sink, L: Ledger>(
     requires offered { offered_test image.now ≡ true }
     requires script { IsLawful (image_shape image.now) script.now }
     requires count { length (events_of script.now) ≡ script.now.events }
-    ensures exact { IsAnswer result → result ≡ (ran image.now script.now).status }
-    ensures report { IsRun result → K.written sink.new ≡ appended (K.written sink.old) (ran image.now script.now).text }
-    ensures no_line { IsRefusal result → ⊥ }
-    ensures no_words { result ≡ Status.Words → ⊥ }
-    ensures no_read { result ≡ Status.OutsideFault OutsideFault.Read → ⊥ }
-    ensures write { result ≡ Status.OutsideFault OutsideFault.Write → Rose (K.faults sink.old) (K.faults sink.new) }
-    ensures part { result ≡ Status.OutsideFault OutsideFault.Write → IsCutShort (K.written sink.old) (K.written sink.new) (ran image.now script.now).text }
-    ensures no_memory { result ≡ Status.NoMemory → ReceivesPart (K.written sink.old) (K.written sink.new) (ran image.now script.now).text (status_line Status.NoMemory)
+    ensures exact { IsAnswer result → result ≡ (ran (⟦<Bus as BusState>⟧.bus bus.old) image.now script.now).status }
+    ensures report { IsRun result → K.written sink.new ≡ appended (K.written sink.old) (ran (⟦<Bus as BusState>⟧.bus bus.old) image.now script.now).text }
+    ensures line { IsRefusal result → ReceivesLine (K.written sink.old) (K.written sink.new) (status_line result)
         (Rose (K.faults sink.old) (K.faults sink.new) ⊎ Rose (K.refusals sink.old) (K.refusals sink.new)) }
-    ensures steps { steps.new ≤ steps.old + 10 * (ran image.now script.now).events }
+    ensures no_input { RanNone result → ⊥ }
+    ensures write { result ≡ Status.OutsideFault OutsideFault.Write → Rose (K.faults sink.old) (K.faults sink.new) }
+    ensures part { result ≡ Status.OutsideFault OutsideFault.Write → IsCutShort (K.written sink.old) (K.written sink.new) (ran (⟦<Bus as BusState>⟧.bus bus.old) image.now script.now).text }
+    ensures no_memory { result ≡ Status.NoMemory → ReceivesPart (K.written sink.old) (K.written sink.new) (ran (⟦<Bus as BusState>⟧.bus bus.old) image.now script.now).text (status_line Status.NoMemory)
+        (Rose (K.faults sink.old) (K.faults sink.new) ⊎ Rose (K.refusals sink.old) (K.refusals sink.new)) }
+    ensures bus { RanAll result → ⟦<Bus as BusState>⟧.bus bus.new ≡ (ran (⟦<Bus as BusState>⟧.bus bus.old) image.now script.now).bus }
+    ensures some { RanSome result → (count : ℕ) × (⟦<Bus as BusState>⟧.bus bus.new ≡ bus_after count (⟦<Bus as BusState>⟧.bus bus.old) image.now script.now) }
+    ensures device { HasDeviceCause (⟦<Bus as BusState>⟧.faults bus.old) (⟦<Bus as BusState>⟧.faults bus.new) result }
+    ensures steps { steps.new ≤ steps.old + 10 * (ran (⟦<Bus as BusState>⟧.bus bus.old) image.now script.now).events }
     ensures most_steps { steps.new ≤ steps.old + 10485760 }
 {
     let Ok(mut machine) = PlainMachine::open(alloc, image) else {
         return refuse(sink, Status::NoMemory);
     };
-    run_events(&mut machine, script, image.cpus, steps);
-    finish(alloc, &machine, sink)
+    match run_events(&mut machine, script, image.cpus, bus, steps) {
+        Ok(()) => finish(alloc, &machine, bus, sink),
+        Err(RunEnd::Device { device }) => {
+            refuse(sink, Status::OutsideFault(OutsideFault::Device { device }))
+        }
+        Err(RunEnd::NoMemory) => refuse(sink, Status::NoMemory),
+    }
 }
 
 /// Does the job that the words name: `run IMAGE SCRIPT` reads an image and a script from the shelf, runs the script's
-/// events on the machine of the image, and prints the report to the sink.
+/// events on the machine of the image beside the bus of port devices, and prints the report to the sink.
 ///
 /// Where the shelf tells its files, the answer is that of `outcome_of`, unless something outside failed or memory ran
 /// out. A refusal is told by its line.
@@ -108,6 +118,7 @@ pub fn svm_run<H: Shelf, K: Sink, L: Ledger, M: Ledger>(
     alloc: Global,
     words: &[&str],
     shelf: &mut H,
+    bus: &mut Bus,
     sink: &mut K,
     steps: &mut Steps<L>,
     entries: &mut Steps<M>,
@@ -116,28 +127,37 @@ pub fn svm_run<H: Shelf, K: Sink, L: Ledger, M: Ledger>(
     ensures words { names_of (map (λ w. w.now) words.now) ≡ None → result ≡ Status.Words }
     ensures only_words { result ≡ Status.Words → names_of (map (λ w. w.now) words.now) ≡ None }
     ensures exact { IfSome (H.files shelf.old) (λ _. IsAnswer result →
-        result ≡ (outcome_of (H.files shelf.old) (map (λ w. w.now) words.now)).status) }
+        result ≡ (outcome_of (⟦<Bus as BusState>⟧.bus bus.old) (H.files shelf.old) (map (λ w. w.now) words.now)).status) }
 
     // A run that is done has printed the whole report.
     ensures report { IfSome (H.files shelf.old) (λ _. IsRun result →
-        K.written sink.new ≡ appended (K.written sink.old) (outcome_of (H.files shelf.old) (map (λ w. w.now) words.now)).text) }
+        K.written sink.new ≡ appended (K.written sink.old) (outcome_of (⟦<Bus as BusState>⟧.bus bus.old) (H.files shelf.old) (map (λ w. w.now) words.now)).text) }
 
     // A refusal has printed its line, unless the sink refused.
     ensures line { IsRefusal result → ReceivesLine (K.written sink.old) (K.written sink.new) (status_line result)
         (Rose (K.faults sink.old) (K.faults sink.new) ⊎ Rose (K.refusals sink.old) (K.refusals sink.new)) }
     ensures no_memory { result ≡ Status.NoMemory → IfSome (H.files shelf.old) (λ _.
-        ReceivesPart (K.written sink.old) (K.written sink.new) (outcome_of (H.files shelf.old) (map (λ w. w.now) words.now)).text (status_line Status.NoMemory)
+        ReceivesPart (K.written sink.old) (K.written sink.new) (outcome_of (⟦<Bus as BusState>⟧.bus bus.old) (H.files shelf.old) (map (λ w. w.now) words.now)).text (status_line Status.NoMemory)
         (Rose (K.faults sink.old) (K.faults sink.new) ⊎ Rose (K.refusals sink.old) (K.refusals sink.new))) }
 
     // A fault comes only where the count rose. A write fault leaves a proper part of the report.
     ensures read { result ≡ Status.OutsideFault OutsideFault.Read → Rose (H.faults shelf.old) (H.faults shelf.new) }
     ensures write { result ≡ Status.OutsideFault OutsideFault.Write → Rose (K.faults sink.old) (K.faults sink.new) }
     ensures part { result ≡ Status.OutsideFault OutsideFault.Write → IfSome (H.files shelf.old) (λ _.
-        IsCutShort (K.written sink.old) (K.written sink.new) (outcome_of (H.files shelf.old) (map (λ w. w.now) words.now)).text) }
+        IsCutShort (K.written sink.old) (K.written sink.new) (outcome_of (⟦<Bus as BusState>⟧.bus bus.old) (H.files shelf.old) (map (λ w. w.now) words.now)).text) }
+
+    // The bus is behind all events, or as it was, or, where the bus or want of memory ended the run, behind some of them. A
+    // device is blamed only where its count rose.
+    ensures bus { RanAll result → IfSome (H.files shelf.old) (λ _.
+        ⟦<Bus as BusState>⟧.bus bus.new ≡ (outcome_of (⟦<Bus as BusState>⟧.bus bus.old) (H.files shelf.old) (map (λ w. w.now) words.now)).bus) }
+    ensures untouched { RanNone result → ⟦<Bus as BusState>⟧.bus bus.new ≡ ⟦<Bus as BusState>⟧.bus bus.old }
+    ensures some { RanSome result → IfSome (H.files shelf.old) (λ _.
+        IsBehindSome (⟦<Bus as BusState>⟧.bus bus.old) (⟦<Bus as BusState>⟧.bus bus.new) (H.files shelf.old) (map (λ w. w.now) words.now)) }
+    ensures device { HasDeviceCause (⟦<Bus as BusState>⟧.faults bus.old) (⟦<Bus as BusState>⟧.faults bus.new) result }
 
     // Ten reads at most are counted for each event, of which there are at most 1,048,576.
     ensures steps { IfSome (H.files shelf.old) (λ _.
-        steps.new ≤ steps.old + 10 * (outcome_of (H.files shelf.old) (map (λ w. w.now) words.now)).events) }
+        steps.new ≤ steps.old + 10 * (outcome_of (⟦<Bus as BusState>⟧.bus bus.old) (H.files shelf.old) (map (λ w. w.now) words.now)).events) }
     ensures most_steps { steps.new ≤ steps.old + 10485760 }
     ensures entries { entries.new ≡ entries.old }
 {
@@ -152,5 +172,5 @@ pub fn svm_run<H: Shelf, K: Sink, L: Ledger, M: Ledger>(
         Ok(script) => script,
         Err(status) => return refuse(sink, status),
     };
-    run_job(alloc, &image, &script, sink, steps)
+    run_job(alloc, &image, &script, bus, sink, steps)
 }

@@ -1,0 +1,22 @@
+-- One more event leads on from those so far.
+use Rattle.std.proofs.Common.{◌≡◌, ◌∙◌, ◌+◌, ℕ, sym, ap, arith}
+use Rattle.svm_model.specs.Script.{events_of}
+use Rattle.port_bus.proofs.Counts.{none_fell-then}
+use Rattle.svm_run.proofs.Events.{led_next, led_same}
+use Rattle.svm_run.proofs.running.run_events.Goals as goal
+
+pub loop-number-preserved : goal.loop-number-preserved
+loop-number-preserved g c =
+    let before = c.loop-number.invariant in
+    let came = c.in_ok-event-in-Some.ensures in
+    record {
+      so_far =
+          led_next _ _ (events_of c.args.script.now) c.loop-number.number c.in-Some.event _ before.so_far (sym c.event_at.ensures.event ∙ c.in-Some.is)
+          ∙ led_same _ _ _ _ (sym came.world) (sym came.bus);
+      shape = came.shape ∙ before.shape;
+      going = came.stopped;
+      done = came.number ∙ ap (λ (n : ℕ). n + 1) before.done;
+      counts = none_fell-then _ _ _ before.counts came.none_fell;
+      cost = omega (arith, before.cost, came.steps);
+      later = omega (arith, before.later, came.later);
+    }
