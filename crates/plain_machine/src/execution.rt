@@ -10,7 +10,7 @@ ghost use Rattle.plain_machine.specs.Parts.{played_by, stepped_of, WritesOne};
 
 use crate::vcpus::Vcpu;
 use port_bus::{Bus, BusState};
-use svm_model::{End, Facts, Op, Registers, Row, RunEnd, Stepped};
+use svm_model::{End, Facts, Form, Registers, Row, RunEnd, Stepped};
 
 /// The guest shuts down: no fault is delivered, as no gate is within an interrupt table of limit 0.
 pub const SHUTDOWN: Stepped = Stepped::Ends(End::Shutdown);
@@ -24,17 +24,17 @@ fn step_over(vcpu: &mut Vcpu, length: u8)
 }
 
 /// HLT halts the vcpu behind it.
-fn halt(vcpu: &mut Vcpu, length: u8) -> Stepped
+fn halt(vcpu: &mut Vcpu, row: &Row, length: u8) -> Stepped
     ensures vcpu { (paging : Paging) (taken : Bool) (bus : BusRecord) (memory frames : List ℕ) →
-        vcpu.new ≡ (played_by paging taken bus memory frames (halt_course vcpu.old length)).vcpu }
+        vcpu.new ≡ (played_by paging taken bus memory frames (halt_course vcpu.old row.now length)).vcpu }
     ensures stepped { (paging : Paging) (taken : Bool) (bus : BusRecord) (memory frames : List ℕ) →
-        result ≡ (played_by paging taken bus memory frames (halt_course vcpu.old length)).stepped }
+        result ≡ (played_by paging taken bus memory frames (halt_course vcpu.old row.now length)).stepped }
     ensures memory { (paging : Paging) (taken : Bool) (bus : BusRecord) (memory frames : List ℕ) →
-        (played_by paging taken bus memory frames (halt_course vcpu.old length)).memory ≡ memory }
+        (played_by paging taken bus memory frames (halt_course vcpu.old row.now length)).memory ≡ memory }
     ensures bus { (paging : Paging) (taken : Bool) (bus : BusRecord) (memory frames : List ℕ) →
-        (played_by paging taken bus memory frames (halt_course vcpu.old length)).bus ≡ bus }
+        (played_by paging taken bus memory frames (halt_course vcpu.old row.now length)).bus ≡ bus }
 {
-    if vcpu.registers.cpl != 0 {
+    if vcpu.registers.cpl != 0 || row.lock {
         return SHUTDOWN;
     }
     step_over(vcpu, length);
@@ -68,16 +68,16 @@ fn port_of(row: &Row) -> u16
 /// IN AL, imm8.
 fn read_port(bus: &mut Bus, vcpu: &mut Vcpu, row: &Row, length: u8) -> Stepped
     ensures vcpu { (paging : Paging) (taken : Bool) (memory frames : List ℕ) →
-        vcpu.new ≡ (played_by paging taken (⟦<Bus as BusState>⟧.bus bus.old) memory frames (read_course vcpu.old length (port_byte row.now))).vcpu }
+        vcpu.new ≡ (played_by paging taken (⟦<Bus as BusState>⟧.bus bus.old) memory frames (read_course vcpu.old row.now length)).vcpu }
     ensures stepped { (paging : Paging) (taken : Bool) (memory frames : List ℕ) →
-        result ≡ (played_by paging taken (⟦<Bus as BusState>⟧.bus bus.old) memory frames (read_course vcpu.old length (port_byte row.now))).stepped }
+        result ≡ (played_by paging taken (⟦<Bus as BusState>⟧.bus bus.old) memory frames (read_course vcpu.old row.now length)).stepped }
     ensures memory { (paging : Paging) (taken : Bool) (memory frames : List ℕ) →
-        (played_by paging taken (⟦<Bus as BusState>⟧.bus bus.old) memory frames (read_course vcpu.old length (port_byte row.now))).memory ≡ memory }
+        (played_by paging taken (⟦<Bus as BusState>⟧.bus bus.old) memory frames (read_course vcpu.old row.now length)).memory ≡ memory }
     ensures bus { (paging : Paging) (taken : Bool) (memory frames : List ℕ) →
-        ⟦<Bus as BusState>⟧.bus bus.new ≡ (played_by paging taken (⟦<Bus as BusState>⟧.bus bus.old) memory frames (read_course vcpu.old length (port_byte row.now))).bus }
+        ⟦<Bus as BusState>⟧.bus bus.new ≡ (played_by paging taken (⟦<Bus as BusState>⟧.bus bus.old) memory frames (read_course vcpu.old row.now length)).bus }
     ensures faults { ⟦<Bus as BusState>⟧.faults bus.new ≡ ⟦<Bus as BusState>⟧.faults bus.old }
 {
-    if !may_use_ports(vcpu) {
+    if !may_use_ports(vcpu) || row.lock {
         return SHUTDOWN;
     }
     let value = bus.read(port_of(row), 1);
@@ -96,20 +96,20 @@ fn write_port(
     length: u8,
 ) -> Result<Stepped, RunEnd>
     ensures vcpu { (paging : Paging) (memory frames : List ℕ) →
-        vcpu.new ≡ (played_by paging (is_ok result) (⟦<Bus as BusState>⟧.bus bus.old) memory frames (write_course facts vcpu.old length (port_byte row.now))).vcpu }
+        vcpu.new ≡ (played_by paging (is_ok result) (⟦<Bus as BusState>⟧.bus bus.old) memory frames (write_course facts vcpu.old row.now length)).vcpu }
     ensures stepped { (paging : Paging) (memory frames : List ℕ) →
-        stepped_of result ≡ (played_by paging (is_ok result) (⟦<Bus as BusState>⟧.bus bus.old) memory frames (write_course facts vcpu.old length (port_byte row.now))).stepped }
+        stepped_of result ≡ (played_by paging (is_ok result) (⟦<Bus as BusState>⟧.bus bus.old) memory frames (write_course facts vcpu.old row.now length)).stepped }
     ensures memory { (paging : Paging) (memory frames : List ℕ) →
-        (played_by paging (is_ok result) (⟦<Bus as BusState>⟧.bus bus.old) memory frames (write_course facts vcpu.old length (port_byte row.now))).memory ≡ memory }
+        (played_by paging (is_ok result) (⟦<Bus as BusState>⟧.bus bus.old) memory frames (write_course facts vcpu.old row.now length)).memory ≡ memory }
     ensures bus { (paging : Paging) (memory frames : List ℕ) →
-        OnOk result (⟦<Bus as BusState>⟧.bus bus.new ≡ (played_by paging true (⟦<Bus as BusState>⟧.bus bus.old) memory frames (write_course facts vcpu.old length (port_byte row.now))).bus) }
+        OnOk result (⟦<Bus as BusState>⟧.bus bus.new ≡ (played_by paging true (⟦<Bus as BusState>⟧.bus bus.old) memory frames (write_course facts vcpu.old row.now length)).bus) }
     ensures kept { OnErr result (⟦<Bus as BusState>⟧.bus bus.new ≡ ⟦<Bus as BusState>⟧.bus bus.old) }
     ensures writes { (paging : Paging) (memory frames : List ℕ) →
-        OnErr result (WritesOne (⟦<Bus as BusState>⟧.bus bus.old) (played_by paging true (⟦<Bus as BusState>⟧.bus bus.old) memory frames (write_course facts vcpu.old length (port_byte row.now))).bus) }
+        OnErr result (WritesOne (⟦<Bus as BusState>⟧.bus bus.old) (played_by paging true (⟦<Bus as BusState>⟧.bus bus.old) memory frames (write_course facts vcpu.old row.now length)).bus) }
     ensures blamed { IfErr result (λ end. Blames end (⟦<Bus as BusState>⟧.faults bus.old) (⟦<Bus as BusState>⟧.faults bus.new)) }
     ensures none_fell { NoneFell (⟦<Bus as BusState>⟧.faults bus.old) (⟦<Bus as BusState>⟧.faults bus.new) }
 {
-    if !may_use_ports(vcpu) {
+    if !may_use_ports(vcpu) || row.lock {
         return Ok(SHUTDOWN);
     }
     let al = (vcpu.registers.general[0] % 0x100) as u32;
@@ -141,9 +141,11 @@ pub fn execute(
     ensures blamed { IfErr result (λ end. Blames end (⟦<Bus as BusState>⟧.faults bus.old) (⟦<Bus as BusState>⟧.faults bus.new)) }
     ensures none_fell { NoneFell (⟦<Bus as BusState>⟧.faults bus.old) (⟦<Bus as BusState>⟧.faults bus.new) }
 {
-    match row.op {
-        Op::Hlt => Ok(halt(vcpu, length)),
-        Op::In => Ok(read_port(bus, vcpu, row, length)),
-        Op::Out => write_port(bus, facts, vcpu, row, length),
+    match row.form {
+        Form::HltF4 => Ok(halt(vcpu, row, length)),
+        Form::InE4 => Ok(read_port(bus, vcpu, row, length)),
+        Form::OutE6 => write_port(bus, facts, vcpu, row, length),
+        // A row that is not executed yet.
+        _ => Ok(Stepped::Ends(End::Mode { rule: 9 })),
     }
 }

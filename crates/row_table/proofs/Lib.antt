@@ -1,1 +1,13 @@
-pub mod Forms
+pub mod Readers
+pub mod Bind
+pub mod Single
+pub mod Parts
+pub mod Opening
+pub mod Whole
+pub mod Splits
+pub mod Lengths
+pub mod Exact
+pub mod Unique
+pub mod Spelled
+pub mod Read
+pub mod Spellings

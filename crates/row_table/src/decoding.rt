@@ -1,115 +1,299 @@
 // Reads the bytes of an instruction.
-ghost use Rattle.std.specs.Prelude.{◌≡◌, ◌≢◌, ◌<◌, ◌++◌, ℕ, List, [], length};
-ghost use Rattle.svm_model.specs.Rows.{byte_row, decoded, opcode_decoded, is_rex, IsForm, IsDecoded};
+ghost use Rattle.std.specs.Prelude.{◌≡◌, ◌≢◌, ◌<◌, ◌≤◌, ◌++◌, ℕ, List, [], length, Bool};
+ghost use Rattle.svm_model.specs.Decoding.{escape_of, line_at, opened_at, row_at};
+ghost use Rattle.svm_model.specs.RowParts.{arithmetic, op_by, condition_by, width_of, is_byte, is_of_byte, cut, full_at, whole_at, immediate_at, operand_field_at, register_by};
+ghost use Rattle.svm_model.specs.InstructionBytes.{Reads};
+ghost use Rattle.svm_model.specs.Rows.{decoded, IsForm, LeavesForms, IsDecoded};
+ghost use Rattle.svm_model.specs.Spelling.{IsSpelled, IsDecodedSpelling};
 
-use svm_model::{Decoded, Form, Op, Operand, Row, Width};
+use crate::fields::{extended_8, extended_32, read_rm, register_code, register_operand};
+use crate::input::Input;
+use crate::prefixes::{read_prefixes, read_rex};
+use crate::table::{first_line, fitting_line, has_modrm, leading_line};
+use svm_model::{
+    Decoded, Immediate, LineOperation, Op, OpcodeMap, OpenedLine, Operand, OperandFields,
+    OperandSize, Prefixes, Rex, Row, Unread, Width,
+};
 
-/// A row of bytes, without an operand.
-fn byte_row(op: Op, form: Form, immediate: u8) -> Row
-    ensures { result ≡ byte_row op form immediate }
+/// ADD OR ADC SBB AND SUB XOR CMP.
+fn arithmetic(number: u8) -> Op
+    ensures { result ≡ arithmetic number }
 {
-    Row {
-        op,
-        form,
-        width: Width::W8,
-        lock: false,
-        register: 0,
-        operand: Operand::None,
-        immediate: u64::from(immediate),
-        condition: 0,
+    match number {
+        0 => Op::Add,
+        1 => Op::Or,
+        2 => Op::Adc,
+        3 => Op::Sbb,
+        4 => Op::And,
+        5 => Op::Sub,
+        6 => Op::Xor,
+        _ => Op::Cmp,
     }
 }
 
-/// Decodes the instruction at the front of the bytes (volume 3, 'Instruction Encoding'). The forms are HLT, F4h, and with
-/// a port byte behind them IN AL, E4h, and OUT AL, E6h, each after at most one REX prefix.
+fn op_by(operation: LineOperation, opcode: u8, modrm: u8) -> Op
+    ensures { result ≡ op_by operation opcode modrm }
+{
+    match operation {
+        LineOperation::ByOpcode => arithmetic(opcode / 8),
+        LineOperation::ByDigit => arithmetic(modrm / 8 % 8),
+        LineOperation::Is(op) => op,
+        LineOperation::Conditional(op) => op,
+    }
+}
+
+fn condition_by(operation: LineOperation, opcode: u8) -> u8
+    ensures { result ≡ condition_by operation opcode }
+{
+    match operation {
+        LineOperation::Conditional(_) => opcode % 16,
+        _ => 0,
+    }
+}
+
+fn width_of(size: OperandSize, prefixes: Prefixes, rex: Rex) -> Width
+    ensures { result ≡ width_of size prefixes rex }
+{
+    match size {
+        OperandSize::Byte | OperandSize::PortByte => Width::W8,
+        OperandSize::Quad => Width::W64,
+        OperandSize::Port if prefixes.operand_size => Width::W16,
+        OperandSize::Port => Width::W32,
+        OperandSize::Operand | OperandSize::FromByte if rex.wide => Width::W64,
+        OperandSize::Operand | OperandSize::FromByte if prefixes.operand_size => Width::W16,
+        OperandSize::Operand | OperandSize::FromByte => Width::W32,
+    }
+}
+
+/// Whether the register of reg has 8 bits.
+fn is_byte(size: OperandSize) -> bool
+    ensures { result ≡ is_byte size }
+{
+    matches!(size, OperandSize::Byte)
+}
+
+/// Whether the operand of r/m has 8 bits.
+fn is_of_byte(size: OperandSize) -> bool
+    ensures { result ≡ is_of_byte size }
+{
+    matches!(size, OperandSize::Byte | OperandSize::FromByte)
+}
+
+fn cut(width: Width, number: u64) -> u64
+    ensures { result ≡ cut width number }
+{
+    match width {
+        Width::W8 => number % 0x100,
+        Width::W16 => number % 0x1_0000,
+        Width::W32 => number % 0x1_0000_0000,
+        Width::W64 => number,
+    }
+}
+
+/// Reads as many bytes as the width has, at most four, and extends them by their sign.
+fn read_full(input: &mut Input, width: Width) -> Result<u64, Unread>
+    ensures { Reads result input.new.rest.now (full_at width input.old.rest.now) }
+{
+    match width {
+        Width::W8 => Ok(u64::from(input.byte()?)),
+        Width::W16 => Ok(u64::from(input.word()?)),
+        Width::W32 => Ok(u64::from(input.double()?)),
+        Width::W64 => Ok(extended_32(input.double()?)),
+    }
+}
+
+/// Reads as many bytes as the width has.
+fn read_whole(input: &mut Input, width: Width) -> Result<u64, Unread>
+    ensures { Reads result input.new.rest.now (whole_at width input.old.rest.now) }
+{
+    match width {
+        Width::W8 => Ok(u64::from(input.byte()?)),
+        Width::W16 => Ok(u64::from(input.word()?)),
+        Width::W32 => Ok(u64::from(input.double()?)),
+        Width::W64 => input.quad(),
+    }
+}
+
+#[tactic(auto, unfolding(svm_model::specs::RowParts::immediate_at))]
+fn read_immediate(input: &mut Input, immediate: Immediate, width: Width) -> Result<u64, Unread>
+    ensures { Reads result input.new.rest.now (immediate_at immediate width input.old.rest.now) }
+{
+    match immediate {
+        Immediate::Nothing => Ok(0),
+        Immediate::One => Ok(1),
+        Immediate::Byte => Ok(u64::from(input.byte()?)),
+        Immediate::Word => Ok(u64::from(input.word()?)),
+        Immediate::Signed => Ok(cut(width, extended_8(input.byte()?))),
+        Immediate::Full => read_full(input, width),
+        Immediate::Whole => read_whole(input, width),
+    }
+}
+
+/// The map that the byte leads to.
+fn escape_of(byte: u8) -> Option<OpcodeMap>
+    ensures { result ≡ escape_of byte }
+{
+    match byte {
+        0x0f => Some(OpcodeMap::Secondary),
+        0xf3 => Some(OpcodeMap::Repeat),
+        _ => None,
+    }
+}
+
+/// Reads the ModRM byte after an opcode, where it has one.
+#[tactic(auto, unfolding(svm_model::specs::Decoding::line_at, svm_model::specs::Decoding::modrm_at))]
+fn read_line(
+    input: &mut Input,
+    prefixes: Prefixes,
+    rex: Rex,
+    map: OpcodeMap,
+    opcode: u8,
+) -> Result<OpenedLine, Unread>
+    requires { rex.register ≤ 8 }
+    ensures { Reads result input.new.rest.now (line_at prefixes rex map opcode input.old.rest.now) }
+{
+    let Some(line) = first_line(prefixes, rex, map, opcode) else {
+        return Err(Unread::Unlisted { byte: opcode });
+    };
+    if !has_modrm(line.fields) {
+        return Ok(OpenedLine {
+            line,
+            opcode,
+            modrm: 0,
+        });
+    }
+    let modrm = input.byte()?;
+    let Some(line) = fitting_line(prefixes, rex, map, opcode, modrm) else {
+        return Err(Unread::Unlisted { byte: modrm });
+    };
+    Ok(OpenedLine {
+        line,
+        opcode,
+        modrm,
+    })
+}
+
+/// Reads the opcode and the ModRM byte.
+#[tactic(auto, unfolding(svm_model::specs::Decoding::opened_at, svm_model::specs::Decoding::after_first, svm_model::specs::Decoding::escaped_at))]
+fn read_opened(input: &mut Input, prefixes: Prefixes, rex: Rex) -> Result<OpenedLine, Unread>
+    requires { rex.register ≤ 8 }
+    ensures { Reads result input.new.rest.now (opened_at prefixes rex input.old.rest.now) }
+{
+    let first = input.byte()?;
+    let Some(map) = escape_of(first) else {
+        return read_line(input, prefixes, rex, OpcodeMap::Primary, first);
+    };
+    if leading_line(prefixes, rex, map).is_none() {
+        return Err(Unread::Unlisted { byte: first });
+    }
+    let opcode = input.byte()?;
+    read_line(input, prefixes, rex, map, opcode)
+}
+
+/// Reads the operand that the form has.
+#[tactic(auto, unfolding(svm_model::specs::RowParts::operand_field_at))]
+fn read_operand(
+    input: &mut Input,
+    segment: u8,
+    rex: Rex,
+    opened: &OpenedLine,
+) -> Result<Operand, Unread>
+    requires index { rex.index ≤ 8 }
+    requires base { rex.base ≤ 8 }
+    ensures { Reads result input.new.rest.now (operand_field_at segment rex opened.now input.old.rest.now) }
+{
+    let small = is_of_byte(opened.line.size);
+    match opened.line.fields {
+        OperandFields::Absent | OperandFields::Exact(_) => Ok(Operand::None),
+        OperandFields::Accumulator => Ok(Operand::Register {
+            index: 0,
+            high: false,
+        }),
+        OperandFields::Opcode => Ok(register_operand(rex, small, opened.opcode % 8)),
+        OperandFields::Control | OperandFields::Debug => Ok(register_operand(
+            rex,
+            false,
+            opened.modrm % 8,
+        )),
+        OperandFields::Any
+        | OperandFields::Direct
+        | OperandFields::Memory
+        | OperandFields::AnyDigit
+        | OperandFields::Digit(_)
+        | OperandFields::DigitMemory(_) => read_rm(input, segment, rex, small, opened.modrm),
+    }
+}
+
+/// The register that reg names.
+fn register_by(fields: OperandFields, rex: Rex, small: bool, modrm: u8) -> u8
+    requires { rex.register ≤ 8 }
+    ensures { result ≡ register_by fields rex small modrm }
+{
+    match fields {
+        OperandFields::Any
+        | OperandFields::Direct
+        | OperandFields::Memory
+        | OperandFields::Control
+        | OperandFields::Debug => { register_code(rex, small, modrm / 8 % 8) }
+        _ => 0,
+    }
+}
+
+/// Reads what stands after the legacy prefixes.
+#[tactic(auto, unfolding(svm_model::specs::Decoding::body_at))]
+fn read_row(input: &mut Input, prefixes: Prefixes) -> Result<Row, Unread>
+    ensures { Reads result input.new.rest.now (row_at prefixes input.old.rest.now) }
+{
+    let rex = read_rex(input);
+    let opened = read_opened(input, prefixes, rex)?;
+    let operand = read_operand(input, prefixes.segment, rex, &opened)?;
+    let line = opened.line;
+    let width = width_of(line.size, prefixes, rex);
+    let immediate = read_immediate(input, line.immediate, width)?;
+    Ok(Row {
+        op: op_by(line.operation, opened.opcode, opened.modrm),
+        form: line.form,
+        width,
+        lock: prefixes.lock,
+        register: register_by(line.fields, rex, is_byte(line.size), opened.modrm),
+        operand,
+        immediate,
+        condition: condition_by(line.operation, opened.opcode),
+    })
+}
+
+#[tactic(auto, unfolding(svm_model::specs::Rows::decoded))]
+fn read_form(bytes: &[u8]) -> Decoded
+    ensures { result ≡ decoded bytes.now }
+{
+    let mut input = Input { rest: bytes };
+    let prefixes = read_prefixes(&mut input);
+    match read_row(&mut input, prefixes) {
+        Ok(row) => Decoded::Row {
+            row,
+            length: (bytes.len() - input.rest.len()) as u8,
+        },
+        Err(Unread::More) => Decoded::More,
+        Err(Unread::Unlisted { byte }) => Decoded::Unlisted { byte },
+    }
+}
+
+/// Decodes the instruction at the front of the bytes (volume 3, 'Instruction Encoding').
 ///
 /// The answer is the row and its length where a form stands at the front; More where the bytes are a proper part of a
-/// form; else Unlisted, with the first byte with which they begin no form. More comes for at most two bytes.
-#[tactic(auto, using(crate::proofs::Forms::forms))]
+/// form, so that they are fewer than 15; else Unlisted, with the first byte with which they begin no form.
 pub fn decode(bytes: &[u8]) -> Decoded
     ensures exact { result ≡ decoded bytes.now }
     ensures answer { IsDecoded bytes.now result }
     // At most one form stands at the front of any bytes.
     ensures row { (front rest : List ℕ) (row : _) → bytes.now ≡ front ++ rest → IsForm front row → result ≡ Decoded.Row row (length front) }
     ensures more { (next : List ℕ) (row : _) → next ≢ [] → IsForm (bytes.now ++ next) row → result ≡ Decoded.More }
-    ensures few { result ≡ Decoded.More → length bytes.now < 3 }
+    ensures unlisted { (byte : ℕ) → LeavesForms bytes.now byte → result ≡ Decoded.Unlisted byte }
+    // The same of forms as the table spells them: prefixes, opcode, ModRM, operand and immediate.
+    ensures spelled { IsDecodedSpelling bytes.now result }
+    ensures spelled_row { (front rest : List ℕ) (row : _) → bytes.now ≡ front ++ rest → IsSpelled front row → result ≡ Decoded.Row row (length front) }
+    ensures spelled_more { (next : List ℕ) (row : _) → next ≢ [] → IsSpelled (bytes.now ++ next) row → result ≡ Decoded.More }
+    ensures few { result ≡ Decoded.More → length bytes.now < 15 }
 {
-    decode_form(bytes)
-}
-
-fn is_rex_prefix(byte: u8) -> bool
-    ensures { result ≡ is_rex byte }
-{
-    matches!(byte, 0x40..=0x4f)
-}
-
-/// What stands behind the prefix.
-fn decode_opcode(bytes: &[u8]) -> Decoded
-    ensures { result ≡ opcode_decoded bytes.now }
-{
-    match bytes {
-        [] => Decoded::More,
-        [0xf4, ..] => Decoded::Row {
-            row: byte_row(Op::Hlt, Form::HltF4, 0),
-            length: 1,
-        },
-        [0xe4, port, ..] => Decoded::Row {
-            row: byte_row(Op::In, Form::InE4, *port),
-            length: 2,
-        },
-        [0xe6, port, ..] => Decoded::Row {
-            row: byte_row(Op::Out, Form::OutE6, *port),
-            length: 2,
-        },
-        [0xe4 | 0xe6] => Decoded::More,
-        [byte, ..] => Decoded::Unlisted { byte: *byte },
-    }
-}
-
-/// At most one prefix stands before the opcode.
-#[tactic(auto, unfolding(svm_model::specs::Rows::decoded))]
-fn decode_form(bytes: &[u8]) -> Decoded
-    ensures { result ≡ decoded bytes.now }
-{
-    let [rex, rest @ ..] = bytes else {
-        return Decoded::More;
-    };
-    if !is_rex_prefix(*rex) {
-        return decode_opcode(bytes);
-    }
-    match decode_opcode(rest) {
-        Decoded::Row { row, length } => Decoded::Row {
-            row,
-            length: length + 1,
-        },
-        Decoded::More => Decoded::More,
-        Decoded::Unlisted { byte } => Decoded::Unlisted { byte },
-    }
-}
-
-#[cfg(test)]
-mod tests {
-    use super::*;
-
-    #[test]
-    fn decodes_its_forms_and_refuses_the_rest(rt: HostRuntime) {
-        let halt = byte_row(Op::Hlt, Form::HltF4, 0);
-        let read = byte_row(Op::In, Form::InE4, 0x10);
-        let write = byte_row(Op::Out, Form::OutE6, 0x48);
-        let row = |row, length| Decoded::Row { row, length };
-        let unlisted = |byte| Decoded::Unlisted { byte };
-        assert!(rt; decode(&[]) == Decoded::More);
-        assert!(rt; decode(&[0xf4]) == row(halt, 1));
-        assert!(rt; decode(&[0xf4, 0x48]) == row(halt, 1));
-        assert!(rt; decode(&[0x48]) == Decoded::More);
-        assert!(rt; decode(&[0x4f, 0xf4, 0]) == row(halt, 2));
-        assert!(rt; decode(&[0xe4]) == Decoded::More);
-        assert!(rt; decode(&[0xe4, 0x10]) == row(read, 2));
-        assert!(rt; decode(&[0x40, 0xe6]) == Decoded::More);
-        assert!(rt; decode(&[0x40, 0xe6, 0x48, 0xf4]) == row(write, 3));
-        assert!(rt; decode(&[0x48, 0x48, 0xf4]) == unlisted(0x48));
-        assert!(rt; decode(&[0x0f, 0xff]) == unlisted(0x0f));
-        assert!(rt; decode(&[0x50, 0xf4]) == unlisted(0x50));
-        assert!(rt; decode(&[0x3f]) == unlisted(0x3f));
-    }
+    read_form(bytes)
 }

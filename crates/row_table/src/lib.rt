@@ -1,11 +1,28 @@
-//! The table of instruction rows: which bytes are which instruction.
+//! The table of instruction rows: which bytes are which instruction, and what memory it accesses.
 //!
 //! `decode` reads bytes against the listed forms. Its contract speaks of the forms alone: a row stands at the front of
 //! the bytes, or some form goes on from them, or a byte is the first with which no form goes on. It is pure over a slice
-//! and keeps nothing. The crate stands on the definitions of `svm_model`; the machines use `decode`'s clauses.
+//! and keeps nothing. The forms stand as one list, a line for each opcode line of volume 3, in the code and in the
+//! definitions of `svm_model`, on which the crate stands; what a form is stands there also as a relation between bytes
+//! and row (`specs/Spelling.antt`), of which `decode`'s contract speaks too. `plan` lists the data accesses of a row, in
+//! order, as `specs/Planning.antt` has them. The machines use `decode`'s and `plan`'s clauses.
 #![tactic(auto)]
 
+mod addresses;
 mod decoding;
+mod fields;
+mod input;
+mod planning;
+mod prefixes;
+mod table;
 
 pub use decoding::decode;
-pub use svm_model::{Decoded, Form, Op, Operand, Row, Width};
+pub use planning::plan;
+pub use svm_model::{
+    Decoded, Form, Op, Operand, PlannedAccess, Registers, Row, Segment, Touch, Width,
+};
+
+#[cfg(test)]
+mod plan_tests;
+#[cfg(test)]
+mod tests;

@@ -1,26 +1,23 @@
 -- The course of an instruction: its fetch, and what its row does.
 use Rattle.std.specs.Prelude.{ℕ, ◌+◌, ◌-◌, ◌%◌, ◌^◌, ◌==◌, nat_le, min, List, ◌++◌, Bool, true, false, if◌then◌else◌, Some, None, length}
 use Rattle.svm_model.specs.Course.{Course, Done, Translate, Read, In, Out, Part, Translation, Here, OnApic, Faults, Outside}
+use Rattle.svm_model.specs.Exceptions.{general_protection, invalid_opcode}
 use Rattle.svm_model.specs.Guest.{Vcpu}
 use Rattle.svm_model.specs.RegisterFile.{is_canonical, is_user, io_privilege, al, with_al}
 use Rattle.svm_model.specs.Rows.{decoded}
-use Rattle.svm_model.specs.declared.names.End.TheVariants.{Unlisted, OutsideMemory, ApicAccess, Shutdown}
+use Rattle.svm_model.specs.declared.names.End.TheVariants.{Unlisted, OutsideMemory, ApicAccess, Mode, Shutdown}
 use Rattle.svm_model.specs.declared.names.Kind.TheVariants.{Fetch}
 use Rattle.svm_model.specs.declared.ports.PortWrite.{PortWrite}
 use Rattle.svm_model.specs.declared.register_file.Registers.{Registers}
 use Rattle.svm_model.specs.declared.rows.Decoded.{Decoded}
 use Rattle.svm_model.specs.declared.rows.Decoded.TheVariants.{Row, More, Unlisted as NoForm}
-use Rattle.svm_model.specs.declared.rows.Op.{Op}
-use Rattle.svm_model.specs.declared.rows.Op.TheVariants as op
+use Rattle.svm_model.specs.declared.rows.Form.{Form}
+use Rattle.svm_model.specs.declared.rows.Form.TheVariants as form
 use Rattle.svm_model.specs.declared.rows.Row.{Row as Instruction}
 use Rattle.svm_model.specs.declared.traps.Cause.TheVariants.{Fault}
 use Rattle.svm_model.specs.declared.traps.Trap.{Trap}
 use Rattle.svm_model.specs.declared.turns.Facts.{Facts}
 use Rattle.svm_model.specs.declared.turns.Stepped.TheVariants.{Went, Ends}
-
--- #GP(0)
-abbrev pub general_protection : Trap
-general_protection = record { vector = 13; code = Some 0; address = None; cause = Fault }
 
 -- #PF with its code and address
 abbrev pub page_fault : ℕ → ℕ → Trap
@@ -53,10 +50,15 @@ rip_after vcpu size = (vcpu.registers.rip + size) % 2 ^ 64
 abbrev pub at_next : Registers → ℕ → Registers
 at_next registers next_rip = record registers { rip = next_rip; shadow = false }
 
+-- a row that takes no LOCK prefix: with one it is #UD, behind the faults of its privilege
+abbrev pub unlocked : Vcpu → Instruction → Course → Course
+unlocked vcpu row next = if row.lock then faulted vcpu invalid_opcode else next
+
 -- HLT halts the vcpu behind it, at CPL 0 (volume 3, 'HLT')
-abbrev pub halt : Vcpu → ℕ → Course
-halt vcpu size =
-    if vcpu.registers.cpl == 0 then Done (record { registers = at_next vcpu.registers (rip_after vcpu size); halted = true }) Went
+abbrev pub halt : Vcpu → Instruction → ℕ → Course
+halt vcpu row size =
+    if vcpu.registers.cpl == 0 then
+        unlocked vcpu row (Done (record { registers = at_next vcpu.registers (rip_after vcpu size); halted = true }) Went)
     else faulted vcpu general_protection
 
 -- the port byte of IN and OUT; ports have 16 bits
@@ -71,9 +73,10 @@ abbrev pub after_in : Vcpu → ℕ → ℕ → Vcpu
 after_in vcpu size value = record { registers = at_next (with_al vcpu.registers value) (rip_after vcpu size); halted = vcpu.halted }
 
 -- IN AL, imm8 reads a byte of the port (volume 3, 'IN')
-abbrev pub read_port : Vcpu → ℕ → ℕ → Course
-read_port vcpu size port =
-    if may_use_ports vcpu then In port 1 (λ value. Done (after_in vcpu size value) Went) else faulted vcpu general_protection
+abbrev pub read_port : Vcpu → Instruction → ℕ → Course
+read_port vcpu row size =
+    if may_use_ports vcpu then unlocked vcpu row (In (port_of row) 1 (λ value. Done (after_in vcpu size value) Went))
+    else faulted vcpu general_protection
 
 abbrev pub after_out : Vcpu → ℕ → Vcpu
 after_out vcpu size = record { registers = at_next vcpu.registers (rip_after vcpu size); halted = vcpu.halted }
@@ -82,19 +85,22 @@ abbrev pub port_write : Facts → ℕ → ℕ → ℕ → PortWrite
 port_write facts port width value = record { event = facts.event; vcpu = facts.vcpu; port = port; width = width; value = value }
 
 -- OUT imm8, AL writes a byte to the port (volume 3, 'OUT'). Where the bus does not take it the vcpu stands before it.
-abbrev pub write_port : Facts → Vcpu → ℕ → ℕ → Course
-write_port facts vcpu size port =
+abbrev pub write_port : Facts → Vcpu → Instruction → ℕ → Course
+write_port facts vcpu row size =
     if may_use_ports vcpu then
-        Out (port_write facts port 1 (al vcpu.registers)) (λ taken. Done (if taken then after_out vcpu size else vcpu) Went)
+        unlocked vcpu row
+        (Out (port_write facts (port_of row) 1 (al vcpu.registers)) (λ taken. Done (if taken then after_out vcpu size else vcpu) Went))
     else faulted vcpu general_protection
 
-abbrev pub done_op : Op → Facts → Vcpu → Instruction → ℕ → Course
-done_op op.Hlt facts vcpu row size = halt vcpu size
-done_op op.In facts vcpu row size = read_port vcpu size (port_of row)
-done_op op.Out facts vcpu row size = write_port facts vcpu size (port_of row)
+-- what a form does; a row that the machine does not execute yet ends the guest
+abbrev pub done_form : Form → Facts → Vcpu → Instruction → ℕ → Course
+done_form form.HltF4 facts vcpu row size = halt vcpu row size
+done_form form.InE4 facts vcpu row size = read_port vcpu row size
+done_form form.OutE6 facts vcpu row size = write_port facts vcpu row size
+done_form _ facts vcpu row size = Done vcpu (Ends (Mode 9))
 
 abbrev pub done_row : Facts → Vcpu → Instruction → ℕ → Course
-done_row facts vcpu row size = done_op row.op facts vcpu row size
+done_row facts vcpu row size = done_form row.form facts vcpu row size
 
 -- Fetch.
 

@@ -6,16 +6,21 @@
 //! layers above offer its types again under their own names.
 #![tactic(auto)]
 
+mod applied;
+mod flags;
 mod formats;
 mod names;
 mod page_tables;
 mod ports;
 mod register_file;
+mod row_lines;
 mod rows;
 mod traps;
 mod turns;
 mod windows;
 
+pub use applied::Applied;
+pub use flags::{Flags, LogicKind, NoQuotient, ShiftKind};
 pub use formats::{ImageReason, ScriptLine, ScriptReason};
 pub use names::{
     Access, CpuId, Effect, End, Ended, Event, Frame, GuestId, Kind, LinearPage, NoMemory, RunEnd,
@@ -24,7 +29,11 @@ pub use names::{
 pub use page_tables::{Entry, Leaf, PageSize, Paging, Pass, Walked};
 pub use ports::PortWrite;
 pub use register_file::{Registers, Segment};
-pub use rows::{Decoded, Form, Op, Operand, Row, Width};
+pub use row_lines::{
+    Displacement, Immediate, LineOperation, OpcodeMap, OpenedLine, OperandFields, OperandSize,
+    Prefixes, Rex, RexNeeds, RowLine, Unread,
+};
+pub use rows::{Decoded, Form, Op, Operand, PlannedAccess, Row, Touch, Width};
 pub use traps::{Cause, Trap};
 pub use turns::{Facts, Stepped, Translated};
 pub use windows::{GuestWindow, OutsideMemory};

@@ -1,0 +1,208 @@
+// Rows that move data.
+ghost use Rattle.std.specs.Prelude.{◌≡◌, ◌^◌, ◌<◌};
+ghost use Rattle.svm_model.specs.Widths.{bits};
+ghost use Rattle.svm_model.specs.Operands.{state};
+ghost use Rattle.svm_model.specs.Moves.{moves, source_width, moves_extended_by_zeros, extended_by_sign, moves_extended_by_sign, loads_address, moves_where, sets_where, half_of, extends_accumulator, spreads_sign};
+
+use crate::conditions::condition_holds;
+use crate::operands::{
+    ACCUMULATOR, RDX, effective_address, operand_value, register_named, write_operand,
+};
+use crate::register_file::{read_flags, write_rip};
+use crate::sources::{destination, source_value};
+use crate::widths::{is_negative, ones};
+use svm_model::{Form, Registers, Row, Width};
+
+/// MOV.
+#[tactic(auto, unfolding(svm_model::specs::Moves::moves))]
+pub fn apply_move(
+    row: &Row,
+    registers: &mut Registers,
+    next_rip: u64,
+    values: &[u64; 8],
+    results: &mut [u64; 8],
+)
+    ensures { state registers.new results.new ≡ moves row.now next_rip values.now (state registers.old results.old) }
+{
+    let value = source_value(row, registers, values);
+    write_operand(row.width, destination(row), value, registers, results);
+    write_rip(registers, next_rip);
+}
+
+/// The width of the source of MOVZX, MOVSX and MOVSXD.
+#[tactic(auto, unfolding(svm_model::specs::Moves::source_width))]
+fn source_width(form: Form) -> Width
+    ensures { result ≡ source_width form }
+{
+    match form {
+        Form::Movzx0FB6 | Form::Movsx0FBE => Width::W8,
+        Form::Movsxd63 => Width::W32,
+        _ => Width::W16,
+    }
+}
+
+/// MOVZX.
+#[tactic(auto, unfolding(svm_model::specs::Moves::moves_extended_by_zeros))]
+pub fn apply_zero_extension(
+    row: &Row,
+    registers: &mut Registers,
+    next_rip: u64,
+    values: &[u64; 8],
+    results: &mut [u64; 8],
+)
+    ensures { state registers.new results.new ≡ moves_extended_by_zeros row.now next_rip values.now (state registers.old results.old) }
+{
+    let value = operand_value(source_width(row.form), row.operand, registers, values);
+    write_operand(
+        row.width,
+        register_named(row.register),
+        value,
+        registers,
+        results,
+    );
+    write_rip(registers, next_rip);
+}
+
+/// An operand as 64 bits of the same signed number.
+#[tactic(auto, unfolding(svm_model::specs::Moves::extended_by_sign))]
+fn extended_by_sign(width: Width, value: u64) -> u64
+    requires { value < 2 ^ bits width }
+    ensures { result ≡ extended_by_sign width value }
+{
+    match width {
+        Width::W8 if value >= 0x80 => value + 0xffff_ffff_ffff_ff00,
+        Width::W16 if value >= 0x8000 => value + 0xffff_ffff_ffff_0000,
+        Width::W32 if value >= 0x8000_0000 => value + 0xffff_ffff_0000_0000,
+        _ => value,
+    }
+}
+
+/// MOVSX and MOVSXD.
+#[tactic(auto, unfolding(svm_model::specs::Moves::moves_extended_by_sign))]
+pub fn apply_sign_extension(
+    row: &Row,
+    registers: &mut Registers,
+    next_rip: u64,
+    values: &[u64; 8],
+    results: &mut [u64; 8],
+)
+    ensures { state registers.new results.new ≡ moves_extended_by_sign row.now next_rip values.now (state registers.old results.old) }
+{
+    let from = source_width(row.form);
+    let value = extended_by_sign(from, operand_value(from, row.operand, registers, values));
+    write_operand(
+        row.width,
+        register_named(row.register),
+        value,
+        registers,
+        results,
+    );
+    write_rip(registers, next_rip);
+}
+
+/// LEA.
+#[tactic(auto, unfolding(svm_model::specs::Moves::loads_address))]
+pub fn apply_load_address(
+    row: &Row,
+    registers: &mut Registers,
+    next_rip: u64,
+    results: &mut [u64; 8],
+)
+    ensures { state registers.new results.new ≡ loads_address row.now next_rip (state registers.old results.old) }
+{
+    let address = effective_address(row.operand, next_rip, registers);
+    write_operand(
+        row.width,
+        register_named(row.register),
+        address,
+        registers,
+        results,
+    );
+    write_rip(registers, next_rip);
+}
+
+/// CMOVcc.
+#[tactic(auto, unfolding(svm_model::specs::Moves::moves_where))]
+pub fn apply_conditional_move(
+    row: &Row,
+    registers: &mut Registers,
+    next_rip: u64,
+    values: &[u64; 8],
+    results: &mut [u64; 8],
+)
+    ensures { state registers.new results.new ≡ moves_where row.now next_rip values.now (state registers.old results.old) }
+{
+    let target = register_named(row.register);
+    let source = operand_value(row.width, row.operand, registers, values);
+    let old = operand_value(row.width, target, registers, values);
+    let value = if condition_holds(row.condition, read_flags(registers)) {
+        source
+    } else {
+        old
+    };
+    write_operand(row.width, target, value, registers, results);
+    write_rip(registers, next_rip);
+}
+
+/// SETcc.
+#[tactic(auto, unfolding(svm_model::specs::Moves::sets_where))]
+pub fn apply_conditional_set(
+    row: &Row,
+    registers: &mut Registers,
+    next_rip: u64,
+    results: &mut [u64; 8],
+)
+    ensures { state registers.new results.new ≡ sets_where row.now next_rip (state registers.old results.old) }
+{
+    let holds = condition_holds(row.condition, read_flags(registers));
+    write_operand(Width::W8, row.operand, u64::from(holds), registers, results);
+    write_rip(registers, next_rip);
+}
+
+fn half_of(width: Width) -> Width
+    ensures { result ≡ half_of width }
+{
+    match width {
+        Width::W64 => Width::W32,
+        Width::W32 => Width::W16,
+        Width::W16 | Width::W8 => Width::W8,
+    }
+}
+
+/// CBW, CWDE and CDQE.
+#[tactic(auto, unfolding(svm_model::specs::Moves::extends_accumulator))]
+pub fn apply_accumulator_extension(
+    row: &Row,
+    registers: &mut Registers,
+    next_rip: u64,
+    values: &[u64; 8],
+    results: &mut [u64; 8],
+)
+    ensures { state registers.new results.new ≡ extends_accumulator row.now next_rip values.now (state registers.old results.old) }
+{
+    let half = half_of(row.width);
+    let value = extended_by_sign(half, operand_value(half, ACCUMULATOR, registers, values));
+    write_operand(row.width, ACCUMULATOR, value, registers, results);
+    write_rip(registers, next_rip);
+}
+
+/// CWD, CDQ and CQO.
+#[tactic(auto, unfolding(svm_model::specs::Moves::spreads_sign))]
+pub fn apply_sign_spread(
+    row: &Row,
+    registers: &mut Registers,
+    next_rip: u64,
+    values: &[u64; 8],
+    results: &mut [u64; 8],
+)
+    ensures { state registers.new results.new ≡ spreads_sign row.now next_rip values.now (state registers.old results.old) }
+{
+    let low = operand_value(row.width, ACCUMULATOR, registers, values);
+    let copies = if is_negative(row.width, low) {
+        ones(row.width)
+    } else {
+        0
+    };
+    write_operand(row.width, RDX, copies, registers, results);
+    write_rip(registers, next_rip);
+}

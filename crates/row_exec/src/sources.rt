@@ -1,0 +1,88 @@
+// The destination and the source of a row with two operands, by its form.
+ghost use Rattle.std.specs.Prelude.{◌≡◌, ◌^◌, ◌<◌};
+ghost use Rattle.svm_model.specs.Widths.{bits};
+ghost use Rattle.svm_model.specs.Sources.{is_reversed, has_immediate, destination, source_operand, destination_value, source_value};
+
+use crate::operands::{operand_value, register_named};
+use crate::register_file::cut;
+use svm_model::{Form, Operand, Registers, Row};
+
+/// Whether the reg field names the destination, and r/m the source.
+#[tactic(auto, unfolding(svm_model::specs::Sources::is_reversed))]
+fn is_reversed(form: Form) -> bool
+    ensures { result ≡ is_reversed form }
+{
+    matches!(
+        form,
+        Form::Arithmetic02 | Form::Arithmetic03 | Form::Mov8A | Form::Mov8B
+    )
+}
+
+/// Whether the source is an immediate.
+#[tactic(auto, unfolding(svm_model::specs::Sources::has_immediate))]
+pub fn has_immediate(form: Form) -> bool
+    ensures { result ≡ has_immediate form }
+{
+    matches!(
+        form,
+        Form::Arithmetic04
+            | Form::Arithmetic05
+            | Form::Arithmetic80
+            | Form::Arithmetic81
+            | Form::Arithmetic83
+            | Form::TestA8
+            | Form::TestA9
+            | Form::TestF6
+            | Form::TestF7
+            | Form::Imul69
+            | Form::Imul6B
+            | Form::MovC6
+            | Form::MovC7
+            | Form::MovB0
+            | Form::MovB8
+            | Form::Bt0FBA
+            | Form::Bts0FBA
+            | Form::Btr0FBA
+            | Form::Btc0FBA
+    )
+}
+
+pub fn destination(row: &Row) -> Operand
+    ensures { result ≡ destination row.now }
+{
+    if is_reversed(row.form) {
+        register_named(row.register)
+    } else {
+        row.operand
+    }
+}
+
+/// The operand that is the source, where it is no immediate.
+fn source_operand(row: &Row) -> Operand
+    ensures { result ≡ source_operand row.now }
+{
+    if is_reversed(row.form) {
+        row.operand
+    } else {
+        register_named(row.register)
+    }
+}
+
+/// The value of the operand that is changed, or of the first of those that are compared.
+pub fn destination_value(row: &Row, registers: &Registers, values: &[u64; 8]) -> u64
+    ensures value { result ≡ destination_value row.now registers.now values.now }
+    ensures fits { result < 2 ^ bits row.now.width }
+{
+    operand_value(row.width, destination(row), registers, values)
+}
+
+pub fn source_value(row: &Row, registers: &Registers, values: &[u64; 8]) -> u64
+    ensures value { result ≡ source_value row.now registers.now values.now }
+    ensures fits { result < 2 ^ bits row.now.width }
+{
+    if has_immediate(row.form) {
+        cut(row.width, row.immediate)
+    } else {
+        operand_value(row.width, source_operand(row), registers, values)
+    }
+}

@@ -1,0 +1,36 @@
+// What a width says in numbers.
+ghost use Rattle.std.specs.Prelude.{◌≡◌, ◌-◌, ◌^◌};
+ghost use Rattle.svm_model.specs.Widths.{bits, top_bit};
+
+use svm_model::Width;
+
+/// The operand whose bits are all 1.
+pub fn ones(width: Width) -> u64
+    ensures { result ≡ 2 ^ bits width - 1 }
+{
+    match width {
+        Width::W8 => 0xff,
+        Width::W16 => 0xffff,
+        Width::W32 => 0xffff_ffff,
+        Width::W64 => u64::MAX,
+    }
+}
+
+/// Whether the highest bit of the operand is set.
+pub fn is_negative(width: Width, value: u64) -> bool
+    ensures { result ≡ top_bit width value }
+{
+    value > ones(width) / 2
+}
+
+/// The number of bits.
+pub fn bit_count(width: Width) -> u64
+    ensures { result ≡ bits width }
+{
+    match width {
+        Width::W8 => 8,
+        Width::W16 => 16,
+        Width::W32 => 32,
+        Width::W64 => 64,
+    }
+}
