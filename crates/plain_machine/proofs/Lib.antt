@@ -1,3 +1,3 @@
 pub mod Opening
 pub mod Singles
-pub mod Translations
+pub mod WalkedTurns

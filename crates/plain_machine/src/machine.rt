@@ -5,12 +5,11 @@ ghost use Rattle.svm_model.specs.Bytes.{IsWithin, guest_of, bytes_at};
 ghost use Rattle.svm_model.specs.Image.{Image as ImageRecord, IsLawfulImage, IsLawfulGuest};
 ghost use Rattle.svm_model.specs.World.{World, world_of, first_guest, plain_event, plain_turn, turn_of, placed, next_event, reached, world_shape, image_shape, is_offered, EndsStay, HandsOver, IsNamed, IsVcpu};
 ghost use Rattle.port_bus.specs.Causes.{Blames, NoneFell};
-ghost use Rattle.plain_machine.specs.Parts.{WritesOne};
+ghost use Rattle.turn_exec.specs.Follows.{WritesOne};
 ghost use Rattle.plain_machine.specs.Single.{first_id, vcpu_in, guest_in, single_world};
 
-use crate::fetch::instruction;
 use crate::loading::load_segments;
-use crate::vcpus::Vcpu;
+use crate::walking::take_turn;
 use host_memory::{GuestWindow, HostMemory, OutsideMemory, Steps};
 use image_format::{GuestImage, Image};
 use port_bus::{Bus, BusState};
@@ -18,6 +17,7 @@ use std::alloc::{AllocError, Global};
 use std::marker::Model;
 use std::sync::ledger::Ledger;
 use svm_model::{Facts, RunEnd, Stepped};
+use turn_exec::Vcpu;
 use vm_names::{CpuId, Effect, Ended, Event, GuestId, NoMemory, Registers, VcpuId};
 
 /// The plain machine. In clauses it is the world that it runs, and whether it is stopped. The bus of port devices stands
@@ -81,7 +81,7 @@ impl PlainMachine {
         ensures shape { world_shape self.new.world ≡ world_shape self.old.world }
         ensures number { self.new.world.event ≡ self.old.world.event }
         ensures stopped { self.new.stopped ≡ self.old.stopped }
-        ensures steps { steps.new ≤ steps.old + 10 }
+        ensures steps { steps.new ≤ steps.old + 40 }
         ensures later { steps.old ≤ steps.new }
     {
         if self.ended.is_some() || self.vcpu.halted {
@@ -91,7 +91,7 @@ impl PlainMachine {
             vcpu: FIRST,
             event: self.event,
         };
-        match instruction(
+        match take_turn(
             &mut self.memory,
             self.window,
             bus,
@@ -162,7 +162,7 @@ impl PlainMachine {
         ensures shape { world_shape self.new.world ≡ world_shape self.old.world }
         ensures number { OnOk result (self.new.world.event ≡ self.old.world.event + 1) }
         ensures stopped { self.new.stopped ≡ self.old.stopped }
-        ensures steps { steps.new ≤ steps.old + 10 }
+        ensures steps { steps.new ≤ steps.old + 40 }
         ensures later { steps.old ≤ steps.new }
     {
         let Some(vcpu) = self.placed_on(cpu) else {
@@ -219,7 +219,7 @@ impl PlainMachine {
         ensures shape { world_shape self.new.world ≡ world_shape self.old.world }
         ensures number { OnOk result (self.new.world.event ≡ self.old.world.event + 1) }
         ensures stopped { self.new.stopped ≡ self.old.stopped }
-        ensures steps { steps.new ≤ steps.old + 10 }
+        ensures steps { steps.new ≤ steps.old + 40 }
         ensures later { steps.old ≤ steps.new }
     {
         match event {
@@ -239,7 +239,7 @@ impl PlainMachine {
     }
 
     /// Does one event of the schedule: places a vcpu, lets the placed vcpu take one turn, feeds a port device or unplugs it.
-    /// The turn of a guest that was ended does nothing, so an end stays. At most ten reads are counted. The event names what
+    /// The turn of a guest that was ended does nothing, so an end stays. At most forty reads are counted. The event names what
     /// the image and the bus have, fewer than 1,048,576 events came before it, and the machine is not stopped.
     ///
     /// Only a feed, or a turn that writes to a port, may be refused: the answer is the bus's, which blames a device only where
@@ -267,7 +267,7 @@ impl PlainMachine {
         ensures ends_stay { EndsStay self.old.world self.new.world }
         ensures shape { world_shape self.new.world ≡ world_shape self.old.world }
         ensures number { OnOk result (self.new.world.event ≡ self.old.world.event + 1) }
-        ensures steps { steps.new ≤ steps.old + 10 }
+        ensures steps { steps.new ≤ steps.old + 40 }
         ensures later { steps.old ≤ steps.new }
     {
         match self.happen(event, bus, steps) {

@@ -3,7 +3,8 @@
 //! It stands on svm_model, whose `specs/Apply.antt` says, in the terms of volume 3, what each row does, one equation a
 //! row, and on flag_math, which computes results and flags. The contract that the layer above uses is that of `apply`:
 //! where `applied` gives a new state, registers and results are that state and the answer is Done; where it gives a
-//! fault, that fault is the answer and nothing is changed. Nothing but the register file writes registers.
+//! fault, that fault is the answer and nothing is changed. Nothing but the register file writes registers; `write_register`
+//! is open to the executor of system rows.
 #![tactic(auto)]
 
 mod applying;
@@ -21,6 +22,7 @@ mod sources;
 mod widths;
 
 pub use applying::{apply, is_user_row, lock_is_undefined};
+pub use register_file::write_register;
 pub use svm_model::{
     Applied, Cause, Flags, Form, Op, Operand, Registers, Row, Segment, Trap, Width,
 };

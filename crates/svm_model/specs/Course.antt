@@ -3,24 +3,22 @@
 -- guest's memory and over host memory. `play` gives it its meaning, and tells what was done.
 use Rattle.std.specs.Prelude.{ℕ, ◌+◌, ◌*◌, ◌/◌, ◌%◌, ◌==◌, nat_lt, List, [], ◌∷◌, ◌++◌, Bool, if◌then◌else◌, length, take, drop, slice_index}
 use Rattle.svm_model.specs.Bus.{Bus, device_of, value_read, bus_after_read, bus_after_write}
+use Rattle.svm_model.specs.Bytes.{put_at}
 use Rattle.svm_model.specs.Guest.{Vcpu}
 use Rattle.svm_model.specs.PageTables.{walked}
 use Rattle.svm_model.specs.declared.names.Access.{Access}
-use Rattle.svm_model.specs.declared.names.Kind.{Kind}
 use Rattle.svm_model.specs.declared.page_tables.Paging.{Paging}
 use Rattle.svm_model.specs.declared.page_tables.Pass.{Pass}
 use Rattle.svm_model.specs.declared.page_tables.Walked.{Walked}
 use Rattle.svm_model.specs.declared.page_tables.Walked.TheVariants.{Leaf, PageFault, Ended}
 use Rattle.svm_model.specs.declared.ports.PortWrite.{PortWrite}
+use Rattle.svm_model.specs.declared.turns.Outer.{Outer}
+use Rattle.svm_model.specs.declared.turns.Outer.TheVariants.{Direct}
+use Rattle.svm_model.specs.declared.turns.Part.{Part}
+use Rattle.svm_model.specs.declared.turns.Space.{Space}
 use Rattle.svm_model.specs.declared.turns.Stepped.{Stepped}
 use Rattle.svm_model.specs.declared.turns.Translated.{Translated}
 use Rattle.svm_model.specs.declared.turns.Translated.TheVariants.{Here as InMemory, OnApic as AtApic, Faults as Unmapped, Outside as Beyond}
-
--- the part of one page that an access touches, by the linear address of its first byte
-pub record Part : Type 0 where
-  pub address : ℕ
-  pub kind : Kind
-  pub user : Bool
 
 -- What a course learns of a translation: the part is in the guest's memory, or on the APIC page; or the walk faults; or
 -- a byte is outside the guest's memory, a table entry's or the part's first.
@@ -37,21 +35,17 @@ pub data Course : Type 0 where
   Translate : (part : Part) (next : Translation → Course) → Course
   -- so many bytes are read in the page of a translation, from the offset of this linear address on
   Read : (index address count : ℕ) (next : List ℕ → Course) → Course
+  -- bytes are written there
+  Write : (index address : ℕ) (bytes : List ℕ) (next : Course) → Course
   -- a port is read, by so many bytes
   In : (port width : ℕ) (next : ℕ → Course) → Course
   -- a port is written to; the course learns whether the bus takes it
   Out : (write : PortWrite) (next : Bool → Course) → Course
 
--- How a turn's accesses are translated. Without nested paging a physical address is one of the guest's memory.
-pub data Outer : Type 0 where
-  Direct : Outer
-
 -- How a turn's accesses are translated, and whether the bus takes what the turn writes to a port. It always does in the
 -- runs that are defined here; a turn that is cut off is one whose write the bus refused.
 pub record Way : Type 0 where
-  pub asid : ℕ
-  pub outer : Outer
-  pub paging : Paging
+  pub space : Space
   pub taken : Bool
 
 -- the walk of an access, and memory after it
@@ -65,6 +59,11 @@ passed_over Direct memory paging access = []
 -- what a turn did that copies of tables have to do with, in order
 pub data Told : Type 0 where
   Accessed : (asid : ℕ) (access : Access) (walked : Walked) (passed : List Pass) → Told
+
+-- what an access in a space tells
+abbrev pub told_of : Space → List ℕ → Access → Told
+told_of space memory access =
+    Accessed space.asid access (walked_over space.outer memory space.paging access).0 (passed_over space.outer memory space.paging access)
 
 -- what playing a course gives
 pub record Turned : Type 0 where
@@ -110,11 +109,10 @@ on_translated (Unmapped code) memory here stops = stops (Faults code) memory
 on_translated (Beyond address) memory here stops = stops (Outside address) memory
 
 -- a part is walked for, which is told whatever comes of it
-abbrev pub translating : Way → List ℕ → Part → (ℕ → List ℕ → Turned) → (Translation → List ℕ → Turned) → Turned
-translating way memory part here stops =
-    let access = access_of part in
-    let walk = walked_over way.outer memory way.paging access in
-    after (Accessed way.asid access walk.0 (passed_over way.outer memory way.paging access)) (on_translated (translated part walk.0 walk.1) walk.1 here stops)
+abbrev pub translating : Space → List ℕ → Part → (ℕ → List ℕ → Turned) → (Translation → List ℕ → Turned) → Turned
+translating space memory part here stops =
+    let walk = walked_over space.outer memory space.paging (access_of part) in
+    after (told_of space memory (access_of part)) (on_translated (translated part walk.0 walk.1) walk.1 here stops)
 
 -- the bus after a write to a port, where it takes it
 abbrev pub bus_after_out : Bool → Bus → PortWrite → Bus
@@ -124,9 +122,11 @@ bus_after_out taken bus write = if taken then bus_after_write bus write else bus
 abbrev pub play : Way → Bus → List ℕ → List ℕ → Course → Turned
 play way bus memory frames (Done vcpu stepped) = record { memory = memory; bus = bus; vcpu = vcpu; stepped = stepped; told = [] }
 play way bus memory frames (Translate part next) =
-    translating way memory part (λ frame m. play way bus m (frames ++ frame ∷ []) (next Here)) (λ stop m. play way bus m frames (next stop))
+    translating way.space memory part (λ frame m. play way bus m (frames ++ frame ∷ []) (next Here)) (λ stop m. play way bus m frames (next stop))
 play way bus memory frames (Read index address count next) =
     play way bus memory frames (next (take count (drop (place_in (slice_index frames index) address) memory)))
+play way bus memory frames (Write index address bytes next) =
+    play way bus (put_at memory (place_in (slice_index frames index) address) bytes) frames next
 play way bus memory frames (In port width next) =
     play way (bus_after_read bus port) memory frames (next (value_read (device_of bus port) width))
 play way bus memory frames (Out write next) = play way (bus_after_out way.taken bus write) memory frames (next way.taken)

@@ -1,3 +1,4 @@
+pub mod Accesses
 pub mod Addresses
 pub mod Apply
 pub mod Arithmetic
@@ -12,6 +13,7 @@ pub mod Decoding
 pub mod Exceptions
 pub mod FlagRows
 pub mod Guest
+pub mod Histories
 pub mod Image
 pub mod Instruction
 pub mod InstructionBytes

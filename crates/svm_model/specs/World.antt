@@ -3,7 +3,7 @@
 use Rattle.std.specs.Prelude.{◌≡◌, ℕ, ◌+◌, ◌*◌, ◌&&◌, ◌==◌, List, [], ◌∷◌, Bool, true, false, if◌then◌else◌, Option, Some, None, length, map, replicate, slice_get, slice_set, ◌<◌}
 use Rattle.svm_model.specs.Bus.{Bus, device_count, bus_after_feed, bus_after_unplug}
 use Rattle.svm_model.specs.Bytes.{put_at}
-use Rattle.svm_model.specs.Course.{Way, Direct, Told, Turned, play}
+use Rattle.svm_model.specs.Course.{Way, Told, Turned, play}
 use Rattle.svm_model.specs.Guest.{Guest, Vcpu}
 use Rattle.svm_model.specs.Image.{Image, ImageGuest, ImageSegment}
 use Rattle.svm_model.specs.Instruction.{instruction}
@@ -14,9 +14,10 @@ use Rattle.svm_model.specs.declared.names.Ended.{Ended}
 use Rattle.svm_model.specs.declared.names.Event.{Event}
 use Rattle.svm_model.specs.declared.names.Event.TheVariants.{Place, Run, Feed, Unplug}
 use Rattle.svm_model.specs.declared.names.VcpuId.{VcpuId}
-use Rattle.svm_model.specs.declared.page_tables.Paging.{Paging}
 use Rattle.svm_model.specs.declared.register_file.Registers.{Registers}
 use Rattle.svm_model.specs.declared.turns.Facts.{Facts}
+use Rattle.svm_model.specs.declared.turns.Outer.TheVariants.{Direct}
+use Rattle.svm_model.specs.declared.turns.Space.{Space}
 use Rattle.svm_model.specs.declared.turns.Stepped.{Stepped}
 use Rattle.svm_model.specs.declared.turns.Stepped.TheVariants.{Went, Ends}
 
@@ -57,11 +58,12 @@ world_of image = record {
 
 -- A vcpu's turn.
 
-abbrev pub plain_way : Paging → Bool → Way
-plain_way paging taken = record { asid = 0; outer = Direct; paging = paging; taken = taken }
+-- the address space of a guest's vcpu
+abbrev pub space_of : Registers → Space
+space_of registers = record { asid = 0; outer = Direct; paging = paging_of registers }
 
 abbrev pub way_of : Registers → Bool → Way
-way_of registers taken = plain_way (paging_of registers) taken
+way_of registers taken = record { space = space_of registers; taken = taken }
 
 -- nothing is done
 abbrev pub idle : Bus → List ℕ → Vcpu → Turned

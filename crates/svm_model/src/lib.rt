@@ -35,5 +35,5 @@ pub use row_lines::{
 };
 pub use rows::{Decoded, Form, Op, Operand, PlannedAccess, Row, Touch, Width};
 pub use traps::{Cause, Trap};
-pub use turns::{Facts, Stepped, Translated};
+pub use turns::{Facts, Outer, Part, Space, Stepped, Translated};
 pub use windows::{GuestWindow, OutsideMemory};

@@ -1,5 +1,5 @@
 -- The bus behind some first events of a job.
-use Rattle.std.proofs.Common.{◌≡◌, ℕ, List, Option, Some, None, Result, Ok, Err, IfSome, refl, sym, subst}
+use Rattle.std.proofs.Common.{◌≡◌, ℕ, List, Option, Some, None, Result, Ok, Err, IfSome, refl, subst}
 use Rattle.byte_shelf.specs.Shelf.{Files}
 use Rattle.svm_model.specs.Bus.{Bus}
 use Rattle.svm_model.specs.Image.{Image as ImageRecord}

@@ -7,7 +7,7 @@ use Rattle.svm_model.specs.Script.{Script, events_of}
 use Rattle.svm_model.specs.World.{World, Led, world_of, plain_run}
 use Rattle.svm_model.specs.declared.names.Event.{Event}
 use Rattle.svm_model.proofs.WorldLemmas.{run-counted}
-use Rattle.svm_run.specs.Outcome.{Outcome, bus_after, ran, finished}
+use Rattle.svm_run.specs.Outcome.{bus_after, ran, finished}
 use Rattle.svm_run.proofs.Events.{led, led_same}
 
 led_parts : (l : Led) → led l.world l.bus ≡ l
@@ -30,11 +30,11 @@ unfolding ran finished
 events-ran bus image script whole =
     omega (arith, run-counted (world_of image) bus (events_of script), starts-at-0 image, whole)
 
--- ten reads at most for each event
-pub reads-ran : (old new : ℕ) (bus : Bus) (image : Image) (script : Script) → length (events_of script) ≡ script.events → new ≤ old + 10 * script.events →
-    new ≤ old + 10 * (ran bus image script).events
+-- forty reads at most for each event
+pub reads-ran : (old new : ℕ) (bus : Bus) (image : Image) (script : Script) → length (events_of script) ≡ script.events → new ≤ old + 40 * script.events →
+    new ≤ old + 40 * (ran bus image script).events
 reads-ran old new bus image script whole h =
-    let P : ℕ → Type 0 = λ count. new ≤ old + 10 * count in
+    let P : ℕ → Type 0 = λ count. new ≤ old + 40 * count in
     subst P (sym (events-ran bus image script whole)) h
 
 -- The bus behind some first events.

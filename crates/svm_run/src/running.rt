@@ -31,7 +31,7 @@ pub fn run_events<L: Ledger>(
     ensures blamed { IfErr result (λ end. Blames end (⟦<Bus as BusState>⟧.faults bus.old) (⟦<Bus as BusState>⟧.faults bus.new)) }
     ensures shape { world_shape machine.new.world ≡ world_shape machine.old.world }
     ensures number { OnOk result (machine.new.world.event ≡ script.now.events) }
-    ensures steps { steps.new ≤ steps.old + 10 * script.now.events }
+    ensures steps { steps.new ≤ steps.old + 40 * script.now.events }
     ensures later { steps.old ≤ steps.new }
 {
     for number in 0..script.events {

@@ -241,7 +241,7 @@ fn jobs_end_as_the_formats_say(rt: HostRuntime) -> Result<(), Fail> {
                 ..HALT
             },
             Status::LeftProfile,
-            "events 2\nguest 0 ended Unlisted value=f vcpu=0 event=1\nvcpu 0.0 l1 ready rip=5000 rfl=2 cr0=80010033 cr3=1000 cr4=a0 efer=d00\n",
+            "events 2\nguest 0 ended Unlisted value=ff vcpu=0 event=1\nvcpu 0.0 l1 ready rip=5000 rfl=2 cr0=80010033 cr3=1000 cr4=a0 efer=d00\n",
         ),
         (
             Job {
@@ -326,6 +326,152 @@ fn jobs_end_as_the_formats_say(rt: HostRuntime) -> Result<(), Fail> {
             },
             Status::OutsideFault(OutsideFault::Device { device: 1 }),
             "fault device 1\n",
+        ),
+    ];
+    for (job, status, text) in table {
+        let code = job.code;
+        assert!(rt; code.len() < 256);
+        let (found, sink) = done::<Brand, Brand>(
+            &rt,
+            rt.alloc(),
+            job,
+            Blank::new(1),
+            Blank::new(1),
+        )?;
+        assert!(rt; found == status, "{found:?}");
+        assert!(rt; sink.bytes() == text.as_bytes(), "{text}");
+    }
+    Ok(())
+}
+
+#[test]
+fn programs_run_as_the_manual_says(rt: HostRuntime) -> Result<(), Fail> {
+    let table = [
+        (
+            Job {
+                code: &[
+                    0x48, 0xb8, 0x05, 0x00, 0x00, 0x00, 0x00, 0x00, 0x00, 0x00, 0x48, 0x01, 0xc0,
+                    0xe6, 0x10, 0xf4,
+                ],
+                script: "place 0 0 0\nrun 0 4\n",
+                ..HALT
+            },
+            Status::Done,
+            "events 5\nguest 0 live\nvcpu 0.0 l1 halted rip=5010 rfl=6 rax=a cr0=80010033 cr3=1000 cr4=a0 efer=d00\nout 0.0 event=3 port=10 width=1 value=a\n",
+        ),
+        (
+            Job {
+                code: &[
+                    0x48, 0xb8, 0x00, 0x00, 0x00, 0x00, 0x00, 0x00, 0xff, 0xff, 0x48, 0x8b, 0x18,
+                ],
+                script: "place 0 0 0\nrun 0 2\n",
+                ..HALT
+            },
+            Status::LeftProfile,
+            "events 3\nguest 0 ended Shutdown value=0 vcpu=0 event=2\nvcpu 0.0 l1 ready rip=500a rfl=2 rax=ffff000000000000 cr0=80010033 cr3=1000 cr4=a0 efer=d00\n",
+        ),
+        (
+            Job {
+                code: &[0xf6, 0xf1],
+                ..HALT
+            },
+            Status::LeftProfile,
+            "events 2\nguest 0 ended Shutdown value=0 vcpu=0 event=1\nvcpu 0.0 l1 ready rip=5000 rfl=2 cr0=80010033 cr3=1000 cr4=a0 efer=d00\n",
+        ),
+        (
+            Job {
+                code: &[0xf0, 0xf4],
+                ..HALT
+            },
+            Status::LeftProfile,
+            "events 2\nguest 0 ended Shutdown value=0 vcpu=0 event=1\nvcpu 0.0 l1 ready rip=5000 rfl=2 cr0=80010033 cr3=1000 cr4=a0 efer=d00\n",
+        ),
+        (
+            Job {
+                code: &[0xf0, 0x01, 0xc0],
+                ..HALT
+            },
+            Status::LeftProfile,
+            "events 2\nguest 0 ended Shutdown value=0 vcpu=0 event=1\nvcpu 0.0 l1 ready rip=5000 rfl=2 cr0=80010033 cr3=1000 cr4=a0 efer=d00\n",
+        ),
+        (
+            Job {
+                code: &[
+                    0xba, 0x10, 0x00, 0x00, 0x00, 0xb8, 0xff, 0xff, 0xff, 0xff, 0x66, 0xed, 0xef,
+                    0xf4,
+                ],
+                script: "place 0 0 0\nfeed 1 0x12345678\nrun 0 5\n",
+                ..HALT
+            },
+            Status::Done,
+            "events 7\nguest 0 live\nvcpu 0.0 l1 halted rip=500e rfl=2 rax=ffff5678 rdx=10 cr0=80010033 cr3=1000 cr4=a0 efer=d00\nout 0.0 event=5 port=10 width=4 value=ffff5678\n",
+        ),
+        (
+            Job {
+                code: &[0x48, 0xc7, 0xc0, 0xff, 0xff, 0xff, 0xff, 0xff, 0xe0],
+                script: "place 0 0 0\nrun 0 3\n",
+                ..HALT
+            },
+            Status::LeftProfile,
+            "events 4\nguest 0 ended Shutdown value=0 vcpu=0 event=3\nvcpu 0.0 l1 ready rip=ffffffffffffffff rfl=2 rax=ffffffffffffffff cr0=80010033 cr3=1000 cr4=a0 efer=d00\n",
+        ),
+        (
+            Job {
+                code: &[0xb8, 0xfc, 0x5f, 0x00, 0x00, 0x48, 0x89, 0x00],
+                entry: 0,
+                script: "place 0 0 0\nrun 0 2\n",
+                ..HALT
+            },
+            Status::LeftProfile,
+            "events 3\nguest 0 ended Shutdown value=0 vcpu=0 event=2\nvcpu 0.0 l1 ready rip=5005 rfl=2 rax=5ffc cr0=80010033 cr3=1000 cr4=a0 efer=d00\n",
+        ),
+        (
+            Job {
+                code: &[0xb8, 0xfc, 0x5f, 0x00, 0x00, 0x48, 0x89, 0x00],
+                entry: 0x2_0007,
+                script: "place 0 0 0\nrun 0 2\n",
+                ..HALT
+            },
+            Status::LeftProfile,
+            "events 3\nguest 0 ended OutsideMemory value=20000 vcpu=0 event=2\nvcpu 0.0 l1 ready rip=5005 rfl=2 rax=5ffc cr0=80010033 cr3=1000 cr4=a0 efer=d00\n",
+        ),
+        (
+            Job {
+                code: &[0xb8, 0x0c, 0x60, 0x00, 0x00, 0x48, 0x89, 0x00],
+                entry: 0xfee0_0007,
+                script: "place 0 0 0\nrun 0 2\n",
+                ..HALT
+            },
+            Status::LeftProfile,
+            "events 3\nguest 0 ended ApicAccess value=c vcpu=0 event=2\nvcpu 0.0 l1 ready rip=5005 rfl=2 rax=600c cr0=80010033 cr3=1000 cr4=a0 efer=d00\n",
+        ),
+        (
+            Job {
+                code: &[0xc6, 0x05, 0x00, 0x00, 0x00, 0x00, 0xf4, 0x0f, 0xff],
+                script: "place 0 0 0\nrun 0 2\n",
+                ..HALT
+            },
+            Status::Done,
+            "events 3\nguest 0 live\nvcpu 0.0 l1 halted rip=5008 rfl=2 cr0=80010033 cr3=1000 cr4=a0 efer=d00\n",
+        ),
+        (
+            Job {
+                rip: 0x5ff8,
+                code: &[0x8b, 0x1c, 0x25, 0xfe, 0x5f, 0x00, 0x00, 0xf4],
+                script: "place 0 0 0\nrun 0 2\n",
+                ..HALT
+            },
+            Status::Done,
+            "events 3\nguest 0 live\nvcpu 0.0 l1 halted rip=6000 rfl=2 rbx=f400 cr0=80010033 cr3=1000 cr4=a0 efer=d00\n",
+        ),
+        (
+            Job {
+                code: &[0xb9, 0x05, 0x00, 0x00, 0x00, 0xff, 0xc9, 0x75, 0xfc, 0xf4],
+                script: "place 0 0 0\nrun 0 12\n",
+                ..HALT
+            },
+            Status::Done,
+            "events 13\nguest 0 live\nvcpu 0.0 l1 halted rip=500a rfl=46 cr0=80010033 cr3=1000 cr4=a0 efer=d00\n",
         ),
     ];
     for (job, status, text) in table {

@@ -1,5 +1,5 @@
 -- What was run and printed is what the run of the script gives.
-use Rattle.std.proofs.Common.{◌≡◌, ◌∙◌, ap, subst, length}
+use Rattle.std.proofs.Common.{◌∙◌, ap, subst, length}
 use Rattle.byte_shelf.specs.Sink.{appended, IsCutShort}
 use Rattle.svm_model.specs.Script.{events_of}
 use Rattle.svm_run.specs.Outcome.{Outcome}

@@ -1,0 +1,107 @@
+// The translator that keeps one copy.
+ghost use Rattle.std.specs.Prelude.{◌≡◌, List, ◌∷◌, None, true};
+ghost use Rattle.svm_model.specs.Course.{Told, Accessed};
+ghost use Rattle.svm_model.specs.PageTables.{HasFrame};
+ghost use Rattle.svm_model.specs.declared.page_tables.Pass.{Pass};
+ghost use Rattle.one_copy.specs.Recalls.{is_kind, is_same as same_access, leaf_for, keeps, Stands};
+
+use crate::kept::Kept;
+use host_memory::{GuestWindow, HostMemory, Steps};
+use page_walk::walk;
+use std::sync::ledger::Ledger;
+use svm_model::{Access, Kind, Leaf, Outer, Space, Walked};
+use turn_exec::Translator;
+
+/// The way to translate that keeps one copy: the leaf of the last walk that found one.
+#[derive(Drop)]
+pub struct OneCopy {
+    kept: Option<Kept>,
+}
+
+/// Whether two accesses are of one kind.
+fn is_same_kind(kind: Kind, other: Kind) -> bool
+    ensures { result ≡ is_kind kind other }
+{
+    match kind {
+        Kind::Read => matches!(other, Kind::Read),
+        Kind::Write => matches!(other, Kind::Write),
+        Kind::Fetch => matches!(other, Kind::Fetch),
+    }
+}
+
+/// Whether two accesses are the same, in the same address space.
+fn is_same(asid: u16, access: Access, other_asid: u16, other: Access) -> bool
+    ensures { result ≡ same_access asid access other_asid other }
+{
+    let same_kind = is_same_kind(access.kind, other.kind);
+    let same_user = access.user == other.user;
+    (asid == other_asid) & (access.page.0 == other.page.0) & same_kind & same_user
+}
+
+/// The kept leaf, where it was found for this access.
+fn find(kept: Option<Kept>, asid: u16, access: Access) -> Option<Leaf>
+    ensures { result ≡ leaf_for kept asid access }
+{
+    let kept = kept?;
+    if is_same(kept.asid, kept.access, asid, access) {
+        Some(kept.leaf)
+    } else {
+        None
+    }
+}
+
+/// Keeps the leaf that a walk found, if it found one, in the place of what was kept.
+fn refill(kept: &mut Option<Kept>, asid: u16, access: Access, walked: Walked)
+    requires frame { HasFrame walked }
+    ensures { (history : List Told) (passed : List Pass) → leaf_for kept.old asid access ≡ None → Stands kept.old history →
+        Stands kept.new (Accessed asid access walked passed ∷ history) }
+{
+    if let Walked::Leaf { leaf, .. } = walked {
+        *kept = Some(Kept { asid, access, leaf });
+    }
+}
+
+impl Translator for OneCopy {
+    ghost stands = { λ c history. Stands c.kept history };
+
+    ghost copies = { true };
+
+    ghost rule = { keeps };
+
+    fn translate<L: Ledger>(
+        &mut self,
+        memory: &mut HostMemory,
+        window: GuestWindow,
+        space: &Space,
+        access: Access,
+        steps: &mut Steps<L>,
+    ) -> Walked {
+        if let Some(leaf) = find(self.kept, space.asid, access) {
+            return Walked::Leaf {
+                leaf,
+                changed: false,
+            };
+        }
+        let walked = match space.outer {
+            Outer::Direct => walk(memory, window, &space.paging, access, steps),
+        };
+        refill(&mut self.kept, space.asid, access, walked);
+        walked
+    }
+}
+
+impl OneCopy {
+    /// A translator that keeps nothing yet.
+    pub fn new() -> OneCopy
+        ensures stands { (history : List Told) → ⟦<OneCopy as Translator>⟧.stands result history }
+    {
+        OneCopy { kept: None }
+    }
+
+    /// Drops what is kept.
+    pub fn drop_copy(&mut self)
+        ensures stands { (history : List Told) → ⟦<OneCopy as Translator>⟧.stands self.new history }
+    {
+        self.kept = None;
+    }
+}

@@ -1,0 +1,4 @@
+pub mod Fetch
+pub mod Follows
+pub mod Parts
+pub mod Rest

@@ -1,0 +1,138 @@
+// Translates parts of pages, and reads and writes in their frames.
+ghost use Rattle.std.specs.Prelude.{◌≡◌, ℕ, ◌+◌, ◌*◌, ◌/◌, ◌%◌, ◌^◌, ◌<◌, ◌≤◌, List, length, take, drop};
+ghost use Rattle.svm_model.specs.Bytes.{IsWithin, SameOutside, guest_of, put_at};
+ghost use Rattle.svm_model.specs.Course.{Told, access_of, apic_frame, located, place_in, told_of};
+ghost use Rattle.turn_exec.specs.Follows.{Finds, IsInside, Needs};
+
+use crate::translator::Translator;
+use host_memory::{GuestWindow, HostMemory, Steps};
+use std::sync::ledger::Ledger;
+use svm_model::{Access, End, Frame, LinearPage, Part, Space, Stepped, Translated, Walked};
+
+// The page of the local APIC, FEE00000h.
+const APIC_FRAME: u64 = 0xfee00;
+
+/// Where a part lies, by its frame.
+#[tactic(auto, using(svm_model::proofs::WindowLemmas::windows))]
+fn locate(memory: &HostMemory, window: GuestWindow, frame: Frame, part: Part) -> Translated
+    requires window { IsWithin window memory.now.bytes }
+    requires pages { window.size % 4096 ≡ 0 }
+    requires width { frame.0 < 2 ^ 28 }
+    ensures located { result ≡ located part frame.0 (guest_of window memory.now.bytes) }
+    ensures inside { IsInside window.size result }
+{
+    let start = 4096 * frame.0;
+    if frame.0 == APIC_FRAME {
+        Translated::OnApic
+    } else if start < window.size {
+        Translated::Here { frame }
+    } else {
+        Translated::Outside {
+            address: start + part.address % 4096,
+        }
+    }
+}
+
+fn access_to(part: Part) -> Access
+    ensures { result ≡ access_of part }
+{
+    Access {
+        page: LinearPage(part.address / 4096),
+        kind: part.kind,
+        user: part.user,
+    }
+}
+
+/// Translates a part of a page. At most four reads are counted.
+#[tactic(auto, using(svm_model::proofs::WindowLemmas::windows))]
+pub fn translate_part<T: Translator, L: Ledger>(
+    translator: &mut T,
+    memory: &mut HostMemory,
+    window: GuestWindow,
+    space: &Space,
+    part: Part,
+    steps: &mut Steps<L>,
+) -> Translated
+    requires window { IsWithin window memory.old.bytes }
+    requires pages { window.size % 4096 ≡ 0 }
+    ensures finds { (history : List Told) → T.stands translator.old history →
+        Needs T.copies (T.rule history (told_of space.now (guest_of window memory.old.bytes) (access_of part))) →
+        Finds T.stands space.now (guest_of window memory.old.bytes) part history result translator.new (guest_of window memory.new.bytes) }
+    ensures inside { IsInside window.size result }
+    ensures others { SameOutside window memory.old.bytes memory.new.bytes }
+    ensures steps { steps.new ≤ steps.old + 4 }
+    ensures later { steps.old ≤ steps.new }
+{
+    match translator.translate(memory, window, space, access_to(part), steps) {
+        Walked::Leaf { leaf, .. } => locate(memory, window, leaf.frame, part),
+        Walked::PageFault { code } => Translated::Faults { code },
+        Walked::Ended(outside) => Translated::Outside {
+            address: outside.address,
+        },
+    }
+}
+
+/// A part on the page of the APIC ends the guest.
+pub fn on_apic(address: u64) -> Stepped
+    ensures { result ≡ Stepped.Ends (End.ApicAccess (address % 4096)) }
+{
+    Stepped::Ends(End::ApicAccess {
+        offset: (address % 4096) as u16,
+    })
+}
+
+/// Reads bytes of a page, from the offset of a linear address on, by one counted read.
+#[tactic(auto, using(svm_model::proofs::WindowLemmas::windows))]
+pub fn read_part<L: Ledger>(
+    memory: &HostMemory,
+    window: GuestWindow,
+    frame: u64,
+    address: u64,
+    count: u8,
+    steps: &mut Steps<L>,
+) -> [u8; 16]
+    requires window { IsWithin window memory.now.bytes }
+    requires inside { 4096 * frame + 4096 ≤ window.size }
+    requires some { 1 ≤ count }
+    requires few { count ≤ 15 }
+    requires page { address % 4096 + count ≤ 4096 }
+    ensures bytes { take count result ≡ take count (drop (place_in frame address) (guest_of window memory.now.bytes)) }
+    ensures steps { steps.new ≡ steps.old + 1 }
+{
+    let mut bytes = [0; 16];
+    let _ = memory.read_guest(
+        window,
+        4096 * frame + address % 4096,
+        count,
+        &mut bytes,
+        steps,
+    );
+    bytes
+}
+
+/// Writes bytes in a page, from the offset of a linear address on.
+#[tactic(auto, using(svm_model::proofs::WindowLemmas::windows))]
+pub fn write_part(
+    memory: &mut HostMemory,
+    window: GuestWindow,
+    frame: u64,
+    address: u64,
+    bytes: &[u8],
+)
+    requires window { IsWithin window memory.old.bytes }
+    requires inside { 4096 * frame + 4096 ≤ window.size }
+    requires some { 1 ≤ length bytes.now }
+    requires few { length bytes.now ≤ 8 }
+    requires page { address % 4096 + length bytes.now ≤ 4096 }
+    ensures written { guest_of window memory.new.bytes ≡ put_at (guest_of window memory.old.bytes) (place_in frame address) bytes.now }
+    ensures others { SameOutside window memory.old.bytes memory.new.bytes }
+{
+    let mut piece = [0; 16];
+    piece[..bytes.len()].copy_from_slice(bytes);
+    let _ = memory.write_guest(
+        window,
+        4096 * frame + address % 4096,
+        &piece,
+        bytes.len() as u8,
+    );
+}
