@@ -1,22 +1,10 @@
 -- What a shelf and a sink in memory tell.
-use Rattle.std.specs.Prelude.{◌+◌, ◌-◌, ◌^◌, min, Contains, ℕ, List, [], map, drop, Bool, Option, Some, None, String, Vec, slice_get}
+use Rattle.std.specs.Prelude.{ℕ, List, [], map, drop, Bool, Option, Some, None, String, Vec, slice_get}
 use Rattle.std.specs.Option.{option_and_then}
 use Rattle.std.specs.List.{zip}
 use Rattle.std.specs.String.{string_bytes}
 use Rattle.byte_shelf.specs.Shelf.{Files}
-
--- the numbers of the calls that fail, and the number of the next call
-pub record Numbered : Type 0 where
-  pub failing : List ℕ
-  pub next : ℕ
-
--- the next call fails
-abbrev pub Fails : Numbered → Type 0
-Fails calls = Contains calls.failing calls.next
-
--- after one more call; the last number is that of every later call
-abbrev pub after_call : Numbered → Numbered
-after_call calls = record { failing = calls.failing; next = min (calls.next + 1) (2 ^ 64 - 1) }
+use Rattle.fault_counts.specs.Numbered.{Numbered}
 
 -- a shelf: its files, whether one is open, what is left of the last one that was, the count of faults, and its calls
 pub record ShelfInMemory : Type 0 where

@@ -1,6 +1,6 @@
 //! Sources and sinks of bytes, for a program that reads whole files and writes text.
 //!
-//! It stands on no other crate. `Shelf` and `Sink` are traits: what a caller proves over them holds for the files and the
+//! It stands on fault_counts. `Shelf` and `Sink` are traits: what a caller proves over them holds for the files and the
 //! output of the system (`FileShelf`, `StdSink`) as for objects in memory (`MemoryShelf`, `MemorySink`), which tell their
 //! content and fail at chosen calls. Each object counts its faults, so that an answer that blames one has a cause.
 //!
@@ -10,7 +10,6 @@
 #![tactic(auto)]
 
 mod answers;
-mod calls;
 mod memory_shelf;
 mod memory_sink;
 mod outside;

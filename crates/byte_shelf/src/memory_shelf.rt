@@ -1,12 +1,13 @@
 // A shelf in memory, which tells its names and their bytes.
 ghost use Rattle.std.specs.Prelude.{◌≡◌, ◌≤◌, ◌<◌, ◌+◌, ◌-◌, ◌^◌, ◌↔◌, ◌++◌, Some, None, [], length, min, take, position, string_bytes, false, IsTrue, IfOk, IsErr, OnErr};
 ghost use Rattle.std.specs.Str.{bytes_eq};
-ghost use Rattle.byte_shelf.specs.Causes.{Rose};
+ghost use Rattle.fault_counts.specs.Causes.{Rose};
 ghost use Rattle.byte_shelf.specs.Shelf.{file_in};
-ghost use Rattle.byte_shelf.specs.Memory.{Fails, after_call, files_of, left_of, opened_of};
+ghost use Rattle.fault_counts.specs.Numbered.{Fails, after_call};
+ghost use Rattle.byte_shelf.specs.Memory.{files_of, left_of, opened_of};
 
 use crate::answers::{Failed, Opened};
-use crate::calls::Calls;
+use fault_counts::Calls;
 use crate::shelf::Shelf;
 use std::marker::Model;
 
@@ -35,7 +36,7 @@ impl Model for MemoryShelf {
       is_open = s.is_open;
       rest = left_of (opened_of s.files.items s.opened) s.place;
       faults = s.calls.faults;
-      calls = record { failing = s.calls.failing.items; next = s.calls.next };
+      calls = s.calls.numbered;
     } };
 
     ghost invariant = { λ s. length s.names.items ≡ length s.files.items };
@@ -74,6 +75,8 @@ impl Shelf for MemoryShelf {
 
     ghost faults = { λ s. s.faults };
 
+    ghost calls = { λ s. s.calls.next };
+
     fn open(&mut self, name: &str) -> Opened
         ensures chosen { (result ≡ Opened.Failed) ↔ Fails self.old.calls }
         ensures calls { self.new.calls ≡ after_call self.old.calls }
@@ -86,6 +89,7 @@ impl Shelf for MemoryShelf {
         ensures kept { result ≡ Opened.Failed → self.new.rest ≡ self.old.rest }
         ensures later { self.old.faults ≤ self.new.faults }
         ensures failed { result ≡ Opened.Failed → Rose self.old.faults self.new.faults }
+        ensures one_call { self.new.calls.next ≤ self.old.calls.next + 1 }
     {
         self.is_open = false;
         if self.calls.fails() {
@@ -116,6 +120,7 @@ impl Shelf for MemoryShelf {
         ensures kept { OnErr result (self.new.rest ≡ self.old.rest) }
         ensures later { self.old.faults ≤ self.new.faults }
         ensures failed { OnErr result (Rose self.old.faults self.new.faults) }
+        ensures one_call { self.new.calls.next ≤ self.old.calls.next + 1 }
     {
         if self.calls.fails() {
             return Err(Failed);

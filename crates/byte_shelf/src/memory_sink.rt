@@ -1,10 +1,10 @@
 // A sink in memory, which tells what it has received.
 ghost use Rattle.std.specs.Prelude.{◌≡◌, ◌≤◌, ◌↔◌, ◌++◌, Some, [], length, IfOk, OnErr, IsErrOf};
-ghost use Rattle.byte_shelf.specs.Causes.{Rose};
-ghost use Rattle.byte_shelf.specs.Memory.{Fails, after_call};
+ghost use Rattle.fault_counts.specs.Causes.{Rose};
+ghost use Rattle.fault_counts.specs.Numbered.{Fails, after_call};
 
 use crate::answers::SinkRefusal;
-use crate::calls::Calls;
+use fault_counts::Calls;
 use crate::sink::Sink;
 use std::alloc::Global;
 use std::marker::Model;
@@ -28,7 +28,7 @@ impl Model for MemorySink {
       written = s.bytes.items;
       faults = s.calls.faults;
       refusals = s.refusals;
-      calls = record { failing = s.calls.failing.items; next = s.calls.next };
+      calls = s.calls.numbered;
     } };
 }
 

@@ -16,6 +16,7 @@ pub struct FileShelf<R: Files + Drop> {
     rt: R,
     file: Option<R::File>,
     faults: u64,
+    calls: u64,
 }
 
 impl<R: Files + Drop> FileShelf<R> {
@@ -28,6 +29,7 @@ impl<R: Files + Drop> FileShelf<R> {
             rt,
             file: None,
             faults: 0,
+            calls: 0,
         }
     }
 }
@@ -41,7 +43,10 @@ impl<R: Files + Drop> Shelf for FileShelf<R> {
 
     ghost faults = { λ s. s.faults };
 
+    ghost calls = { λ s. s.calls };
+
     fn open(&mut self, name: &str) -> Opened {
+        self.calls = self.calls.saturating_add(1);
         self.file = None;
         match fs::open(&self.rt, name) {
             Ok(file) => {
@@ -59,6 +64,7 @@ impl<R: Files + Drop> Shelf for FileShelf<R> {
     }
 
     fn read(&mut self, into: &mut [u8]) -> Result<usize, Failed> {
+        self.calls = self.calls.saturating_add(1);
         if let Some(file) = &mut self.file {
             if let Ok(count) = file.read(into) {
                 return Ok(count);

@@ -1,6 +1,6 @@
 // Where bytes come from.
-ghost use Rattle.std.specs.Prelude.{◌≡◌, ◌≤◌, ◌<◌, ℕ, List, [], Option, None, Ok, Err, length, take, Bool, IsTrue, IfOk, OnErr, IfSome, IsErrOf, IsSome};
-ghost use Rattle.byte_shelf.specs.Causes.{Rose};
+ghost use Rattle.std.specs.Prelude.{◌≡◌, ◌≤◌, ◌<◌, ◌+◌, ℕ, List, [], Option, None, Ok, Err, length, take, Bool, IsTrue, IfOk, OnErr, IfSome, IsErrOf, IsSome};
+ghost use Rattle.fault_counts.specs.Causes.{Rose};
 ghost use Rattle.byte_shelf.specs.Shelf.{Files, file_of, after_bytes, whole_file};
 
 use crate::answers::{Failed, Opened, ReadAll};
@@ -9,7 +9,8 @@ use std::alloc::Global;
 /// A source of files, each of which has a name.
 ///
 /// A shelf tells its names with their bytes, or nothing (`files`). It tells whether the last `open` answered `Here`
-/// (`is_open`), and of the open file what is left to read (`rest`). It counts its faults, from 0 to 2^64-1 (`faults`).
+/// (`is_open`), and of the open file what is left to read (`rest`). It counts its faults, from 0 to 2^64-1 (`faults`), and
+/// its calls (`calls`), of `open` and of `read`: each raises that count by one at most.
 pub trait Shelf {
     ghost files: { Self → Option Files };
 
@@ -18,6 +19,8 @@ pub trait Shelf {
     ghost rest: { Self → Option (List ℕ) };
 
     ghost faults: { Self → ℕ };
+
+    ghost calls: { Self → ℕ };
 
     /// Opens the first file of that name at its first byte. With any answer but `Here` no file is open afterwards.
     fn open(&mut self, name: &str) -> Opened
@@ -30,7 +33,8 @@ pub trait Shelf {
         ensures kept { result ≡ Opened.Failed → rest self.new ≡ rest self.old }
         ensures kept_no_memory { result ≡ Opened.NoMemory → rest self.new ≡ rest self.old }
         ensures later { faults self.old ≤ faults self.new }
-        ensures failed { result ≡ Opened.Failed → Rose (faults self.old) (faults self.new) };
+        ensures failed { result ≡ Opened.Failed → Rose (faults self.old) (faults self.new) }
+        ensures calls { calls self.new ≤ calls self.old + 1 };
 
     /// Reads the next bytes of the open file into the first bytes of `into`, and answers how many; 0 only at the end of
     /// the file, or where there is no room.
@@ -43,13 +47,14 @@ pub trait Shelf {
         ensures end { IfOk result (λ count. count ≡ 0 → 0 < length into.old → IfSome (rest self.old) (λ bytes. bytes ≡ [])) }
         ensures kept { OnErr result (rest self.new ≡ rest self.old) }
         ensures later { faults self.old ≤ faults self.new }
-        ensures failed { OnErr result (Rose (faults self.old) (faults self.new)) };
+        ensures failed { OnErr result (Rose (faults self.old) (faults self.new)) }
+        ensures calls { calls self.new ≤ calls self.old + 1 };
 }
 
 /// Reads the whole file of a name, of at most `limit` bytes.
 ///
-/// It reads 4,096 bytes a turn. Each turn but the last takes a byte at least, so that it makes at most `limit + 2` reads
-/// and ends for every shelf. It reads past the limit only to tell that there is more.
+/// It reads up to 4,096 bytes a turn. Each turn but the last takes a byte at least, so that it makes at most `limit + 1`
+/// reads behind one `open`, and ends for every shelf. It reads past the limit only to tell that there is more.
 pub fn read_all<H: Shelf>(
     alloc: Global,
     shelf: &mut H,
@@ -66,6 +71,7 @@ pub fn read_all<H: Shelf>(
     ensures files { H.files shelf.new ≡ H.files shelf.old }
     ensures later { H.faults shelf.old ≤ H.faults shelf.new }
     ensures failed { IsErrOf result ReadAll.Failed → Rose (H.faults shelf.old) (H.faults shelf.new) }
+    ensures calls { H.calls shelf.new ≤ H.calls shelf.old + limit + 2 }
 {
     match shelf.open(name) {
         Opened::Here => read_open(alloc, shelf, limit),
@@ -85,6 +91,7 @@ fn read_open<H: Shelf>(alloc: Global, shelf: &mut H, limit: u32) -> Result<Vec<u
     ensures files { H.files shelf.new ≡ H.files shelf.old }
     ensures later { H.faults shelf.old ≤ H.faults shelf.new }
     ensures failed { IsErrOf result ReadAll.Failed → Rose (H.faults shelf.old) (H.faults shelf.new) }
+    ensures calls { H.calls shelf.new ≤ H.calls shelf.old + limit + 1 }
 {
     let mut all: Vec<u8> = Vec::new(alloc);
     let mut piece = [0; 4096];
@@ -146,6 +153,7 @@ mod tests {
     struct Crumbs {
         is_open: bool,
         left: u8,
+        calls: u64,
     }
 
     impl Shelf for Crumbs {
@@ -157,13 +165,17 @@ mod tests {
 
         ghost faults = { λ _. 0 };
 
+        ghost calls = { λ s. s.calls };
+
         fn open(&mut self, _name: &str) -> Opened {
+            self.calls = self.calls.saturating_add(1);
             self.is_open = true;
             self.left = 7;
             Opened::Here
         }
 
         fn read(&mut self, into: &mut [u8]) -> Result<usize, Failed> {
+            self.calls = self.calls.saturating_add(1);
             if self.left == 0 || into.is_empty() {
                 return Ok(0);
             }
@@ -179,6 +191,7 @@ mod tests {
         let mut crumbs = Crumbs {
             is_open: false,
             left: 0,
+            calls: 0,
         };
         match read_all(alloc, &mut crumbs, "any", 7) {
             Ok(all) => assert_eq!(rt; all.as_slice(), [7, 6, 5, 4, 3, 2, 1].as_slice()),

@@ -1,6 +1,6 @@
 // Where bytes go.
 ghost use Rattle.std.specs.Prelude.{◌≡◌, ◌≤◌, ◌<◌, ℕ, List, [], Option, Ok, length, take, IfOk, OnOk, OnErr, IsErrOf};
-ghost use Rattle.byte_shelf.specs.Causes.{Rose};
+ghost use Rattle.fault_counts.specs.Causes.{Rose};
 ghost use Rattle.byte_shelf.specs.Sink.{appended, IsCutShort};
 
 use crate::answers::SinkRefusal;

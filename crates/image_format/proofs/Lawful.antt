@@ -1,14 +1,16 @@
 -- Whatever bytes are an image, it is lawful.
 use Rattle.std.proofs.Common.{◌≡◌, ℕ, zero, suc, ◌+◌, ◌*◌, ◌≤◌, Bool, true, false, cond, ltb, leb, ◌&&◌, List, length, Result, Ok, Err, refl, ap, arith}
-use Rattle.std.specs.Prelude.{IfOk, ⊤}
+use Rattle.std.specs.Prelude.{IfOk, IsTrue}
 use Rattle.std.specs.Int.{Width, w8, w16, w32, w64}
 use Rattle.std.specs.List.{AllByRecursion}
 use Rattle.std.proofs.lemmas.Bool.{ltb-false, leb-true, and_parts}
 use Rattle.std.proofs.lemmas.List.{length-take}
 use Rattle.std.proofs.lemmas.List.Elements.{All-from_recursion}
-use Rattle.svm_model.specs.Image.{Image, ImageGuest, ImageFault, Source, ◌>>=◌, bytes_in, number_in, judged, bounded, zero_in, zeros_in, magic_in, vcpu_in, segment_in, many_in, guest_in, image_in, image_limit, image_of, IsLawfulSegment, IsLawfulGuest, IsLawfulImage}
+use Rattle.svm_model.specs.Image.{Image, ImageGuest, ImageFault, Source, ◌>>=◌, bytes_in, number_in, judged, bounded, zero_in, zeros_in, magic_in, root_in, linear_in, flags_in, is_root, are_flags, table_register, start_tr, start_registers, vcpu_in, segment_in, many_in, guest_in, image_in, image_limit, image_of, IsLawfulSegment, IsLawfulStart, IsLawfulVcpu, IsLawfulGuest, IsLawfulImage}
+use Rattle.svm_model.specs.RegisterFile.{is_canonical}
+use Rattle.svm_model.specs.declared.register_file.Registers.{Registers}
 use Rattle.svm_model.specs.declared.formats.ImageReason.{ImageReason}
-use Rattle.svm_model.specs.declared.formats.ImageReason.TheVariants.{Version, Count, Range, Trailing}
+use Rattle.svm_model.specs.declared.formats.ImageReason.TheVariants.{Version, Count, Register, Range, Trailing}
 use Rattle.image_format.specs.declared.refusal.ImageRefusal.{ImageRefusal}
 use Rattle.image_format.specs.Reading.{GivesImage}
 
@@ -21,10 +23,6 @@ then P Q (Err fault) f p q = tt
 passes : {A : Type 0} (s : Source) (reason : ImageReason) (good : Bool) (x : A) (Q : A → Type 0) → (good ≡ true → Q x) → IfOk (judged s reason good x) Q
 passes s reason true x Q h = h refl
 passes s reason false x Q h = tt
-
-always : {A : Type 0} (r : Result A ImageFault) → IfOk r (λ _. ⊤)
-always (Ok x) = tt
-always (Err fault) = tt
 
 either : {A : Type 0} (long : Bool) (fault : ImageFault) (r : Result A ImageFault) (Q : A → Type 0) → IfOk r Q → IfOk (cond long (Err fault) r) Q
 either true fault r Q h = tt
@@ -72,6 +70,48 @@ segment_is pages s =
     then (λ bytes. length bytes.0 ≡ fit.0) (λ x. IsLawfulSegment pages x.0) (bytes_in fit.0 pad.1) _ (sized fit.0 pad.1) (λ bytes e.
     record { some = rw e h.0; within = rw e h.1 })))))
 
+-- a number that passed a test, and what is left behind it
+checked : (s : Source) (reason : ImageReason) (test : ℕ → Bool) → IfOk (number_in w64 s >>= λ n. judged s reason (test n.0) n) (λ n. IsTrue (test n.0))
+checked s reason test =
+    skip (λ n. IsTrue (test n.0)) (number_in w64 s) _ (λ n. passes s reason (test n.0) n (λ x. IsTrue (test x.0)) (λ good. good))
+
+vcpu_is : (s : Source) → IfOk (vcpu_in s) (λ x. IsLawfulVcpu x.0)
+unfolding vcpu_in
+vcpu_is s =
+    let Q : Registers × Source → Type 0 = λ x. IsLawfulVcpu x.0 in
+    then (λ n. IsTrue (is_root n.0)) Q (root_in s) _ (checked s Register is_root) (λ cr3 a.
+    then (λ n. IsTrue (is_canonical n.0)) Q (linear_in cr3.1) _ (checked cr3.1 Register is_canonical) (λ rip b.
+    then (λ n. IsTrue (is_canonical n.0)) Q (linear_in rip.1) _ (checked rip.1 Register is_canonical) (λ rsp d.
+    then (λ n. IsTrue (are_flags n.0)) Q (flags_in rsp.1) _ (checked rsp.1 Register are_flags) (λ rflags e.
+    then (λ n. IsTrue (is_canonical n.0)) Q (linear_in rflags.1) _ (checked rflags.1 Register is_canonical) (λ gdtr f.
+    then (λ n. IsTrue (is_canonical n.0)) Q (linear_in gdtr.1) _ (checked gdtr.1 Register is_canonical) (λ idtr h.
+    then (λ n. IsTrue (is_canonical n.0)) Q (linear_in idtr.1) _ (checked idtr.1 Register is_canonical) (λ tr k.
+    skip Q (number_in w16 tr.1) _ (λ gdtr_limit.
+    skip Q (number_in w16 gdtr_limit.1) _ (λ idtr_limit.
+    skip Q (number_in w16 idtr_limit.1) _ (λ tr_limit.
+    skip Q (zero_in w16 tr_limit.1) _ (λ pad.
+    record {
+      start = record {
+        cr3 = cr3.0;
+        rip = rip.0;
+        rsp = rsp.0;
+        rflags = rflags.0;
+        gdtr = table_register gdtr.0 gdtr_limit.0;
+        idtr = table_register idtr.0 idtr_limit.0;
+        tr = start_tr tr.0 tr_limit.0;
+      };
+      starts = refl;
+      lawful = record {
+        root = a;
+        rip = b;
+        rsp = d;
+        rflags = e;
+        gdtr = (gdtr.0, gdtr_limit.0, refl, f);
+        idtr = (idtr.0, idtr_limit.0, refl, h);
+        tr = (tr.0, tr_limit.0, refl, k);
+      };
+    })))))))))))
+
 guest_is : (s : Source) → IfOk (guest_in s) (λ x. IsLawfulGuest x.0)
 unfolding guest_in
 guest_is s =
@@ -81,13 +121,14 @@ guest_is s =
     then (λ pages. IsWithin 1 16384 pages.0) Q (bounded w32 1 16384 Count zeros.1) _ (bounds w32 1 16384 Count zeros.1) (λ pages b.
     then (λ parts. IsWithin 0 4096 parts.0) Q (bounded w32 0 4096 Count pages.1) _ (bounds w32 0 4096 Count pages.1) (λ parts d.
     skip Q (zero_in w32 parts.1) _ (λ pad.
-    then (λ vcpus. (length vcpus.0 ≡ count.0) × AllByRecursion (λ _. ⊤) vcpus.0) Q (many_in vcpu_in count.0 pad.1) _ (all_many (λ _. ⊤) vcpu_in (λ t. always (vcpu_in t)) count.0 pad.1) (λ vcpus e.
+    then (λ vcpus. (length vcpus.0 ≡ count.0) × AllByRecursion IsLawfulVcpu vcpus.0) Q (many_in vcpu_in count.0 pad.1) _ (all_many IsLawfulVcpu vcpu_in vcpu_is count.0 pad.1) (λ vcpus e.
     then (λ segments. (length segments.0 ≡ parts.0) × AllByRecursion (IsLawfulSegment pages.0) segments.0) Q (many_in (segment_in pages.0) parts.0 vcpus.1) _ (all_many (IsLawfulSegment pages.0) (segment_in pages.0) (segment_is pages.0) parts.0 vcpus.1) (λ segments f.
     record {
       some_pages = b.0;
       most_pages = b.1;
       some_vcpus = rw e.0 a.0;
       most_vcpus = rw e.0 a.1;
+      vcpus = All-from_recursion IsLawfulVcpu vcpus.0 e.1;
       most_segments = rw f.0 d.1;
       segments = All-from_recursion _ segments.0 f.1;
     })))))))

@@ -11,7 +11,6 @@
 
 mod answers;
 mod bus;
-mod calls;
 mod device;
 mod file_device;
 mod lists;

@@ -1,7 +1,7 @@
 -- What the program answers and prints: what the words over these files give where nothing outside fails and memory is
 -- ample. The order of refusals is the order of the cases.
 use Rattle.std.specs.Prelude.{◌≡◌, ◌⊎◌, ℕ, List, [], ◌∷◌, Bool, true, false, if◌then◌else◌, Option, Some, None, Result, Ok, Err, is_some, take}
-use Rattle.byte_shelf.specs.Causes.{Rose}
+use Rattle.fault_counts.specs.Causes.{Rose}
 use Rattle.byte_shelf.specs.Shelf.{Files, file_of, whole_file}
 use Rattle.byte_shelf.specs.declared.answers.ReadAll.{ReadAll}
 use Rattle.byte_shelf.specs.declared.answers.ReadAll.TheVariants.{Missing as NoFile, Failed, TooLong as TooManyBytes, NoMemory as NoRoom}

@@ -1,6 +1,6 @@
 // The top call: what the program does with its words.
 ghost use Rattle.std.specs.Prelude.{◌≡◌, ◌⊎◌, ◌≤◌, ◌+◌, ◌*◌, ◌<◌, true, length, map, List, Option, ℕ, Some, None, IfSome, IfErr, IfOk};
-ghost use Rattle.byte_shelf.specs.Causes.{Rose};
+ghost use Rattle.fault_counts.specs.Causes.{Rose};
 ghost use Rattle.byte_shelf.specs.Sink.{appended, IsCutShort};
 ghost use Rattle.svm_model.specs.Image.{IsLawfulImage};
 ghost use Rattle.svm_model.specs.Script.{IsLawful, events_of};
