@@ -1,3 +1,4 @@
 pub mod Opening
 pub mod Singles
 pub mod WalkedTurns
+pub mod WellFormed

@@ -1,9 +1,9 @@
 // The plain machine: a world of one guest with one vcpu on one processor.
-ghost use Rattle.std.specs.Prelude.{◌≡◌, ℕ, ◌+◌, ◌*◌, ◌%◌, ◌<◌, ◌≤◌, Bool, true, false, Some, None, Err, List, [], ◌∷◌, length, is_ok, is_err, OnOk, OnErr, IfOk, IfErr, IfSome, IsTrue, MatchResult, slice_get, drop, take};
+ghost use Rattle.std.specs.Prelude.{◌≡◌, ℕ, ◌+◌, ◌*◌, ◌%◌, ◌<◌, ◌≤◌, Bool, true, false, Some, None, Err, List, [], ◌∷◌, length, is_ok, is_err, OnOk, OnErr, IfOk, IfErr, IfSome, IsTrue, slice_get, drop, take};
 ghost use Rattle.std.specs.Option.{option_map};
-ghost use Rattle.svm_model.specs.Bytes.{IsWithin, guest_of, bytes_at};
+ghost use Rattle.svm_model.specs.Bytes.{IsWithin, guest_of, byte_at};
 ghost use Rattle.svm_model.specs.Image.{Image as ImageRecord, IsLawfulImage, IsLawfulGuest};
-ghost use Rattle.svm_model.specs.World.{World, world_of, first_guest, plain_event, plain_turn, turn_of, placed, next_event, reached, world_shape, image_shape, is_offered, EndsStay, HandsOver, IsNamed, IsVcpu};
+ghost use Rattle.svm_model.specs.World.{World, world_of, first_guest, plain_event, plain_turn, turn_of, placed, next_event, reached, world_shape, image_shape, is_offered, EndsStay, HandsOver, IsNamed, IsVcpu, IsWellFormed};
 ghost use Rattle.port_bus.specs.Causes.{Blames, NoneFell};
 ghost use Rattle.turn_exec.specs.Follows.{WritesOne};
 ghost use Rattle.plain_machine.specs.Single.{first_id, vcpu_in, guest_in, single_world};
@@ -245,7 +245,7 @@ impl PlainMachine {
     /// Only a feed, or a turn that writes to a port, may be refused: the answer is the bus's, which blames a device only where
     /// that counted a fault in this call. The bus is then as it was, and the machine stands where the event had come to, with
     /// the vcpu before its instruction, and is stopped.
-    #[tactic(auto, using(svm_model::proofs::EndLemmas::ends))]
+    #[tactic(auto, using(svm_model::proofs::EndLemmas::ends, crate::proofs::WellFormed::forms))]
     pub fn event<L: Ledger>(
         &mut self,
         event: Event,
@@ -266,6 +266,7 @@ impl PlainMachine {
         ensures none_fell { NoneFell (⟦<Bus as BusState>⟧.faults bus.old) (⟦<Bus as BusState>⟧.faults bus.new) }
         ensures ends_stay { EndsStay self.old.world self.new.world }
         ensures shape { world_shape self.new.world ≡ world_shape self.old.world }
+        ensures well_formed { IsWellFormed self.new.world }
         ensures number { OnOk result (self.new.world.event ≡ self.old.world.event + 1) }
         ensures steps { steps.new ≤ steps.old + 40 }
         ensures later { steps.old ≤ steps.new }
@@ -342,9 +343,7 @@ impl PlainMachine {
         steps: &mut Steps<L>,
     ) -> Result<u8, OutsideMemory>
         requires { guest.0 < length self.now.world.guests }
-        ensures byte { IfSome (guest_in self.now.world guest) (λ g. MatchResult (bytes_at g.memory address 1)
-            (λ bytes. IfOk result (λ byte. byte ∷ [] ≡ bytes))
-            (λ outside. result ≡ Err outside)) }
+        ensures byte { IfSome (guest_in self.now.world guest) (λ g. result ≡ byte_at g.memory address) }
         ensures steps { steps.new ≡ steps.old + 1 }
     {
         let _ = guest;
@@ -355,13 +354,14 @@ impl PlainMachine {
     }
 
     /// The machine that an image starts: the one guest's memory with its segments, its vcpu as it starts, and no vcpu placed.
-    #[tactic(auto, unfolding(svm_model::specs::World::world_of))]
+    #[tactic(auto, using(crate::proofs::WellFormed::forms), unfolding(svm_model::specs::World::world_of))]
     pub fn open(alloc: Global, image: &Image) -> Result<PlainMachine, NoMemory>
         requires lawful { IsLawfulImage image.now }
         requires offered { is_offered image.now ≡ true }
         ensures world { IfOk result (λ machine. machine.world ≡ world_of image.now) }
         ensures going { IfOk result (λ machine. machine.stopped ≡ false) }
         ensures shape { IfOk result (λ machine. world_shape machine.world ≡ image_shape image.now) }
+        ensures well_formed { IfOk result (λ machine. IsWellFormed machine.world) }
         ensures number { IfOk result (λ machine. machine.world.event ≡ 0) }
     {
         let guest = &image.guests[0];

@@ -1,5 +1,5 @@
 -- Memory as a list of bytes.
-use Rattle.std.specs.Prelude.{◌≡◌, ℕ, ◌+◌, ◌≤◌, List, ◌++◌, length, take, drop, nat_le, if◌then◌else◌, max, Result, Ok, Err}
+use Rattle.std.specs.Prelude.{◌≡◌, ℕ, ◌+◌, ◌≤◌, List, ◌++◌, length, take, drop, nat_le, if◌then◌else◌, max, Result, Ok, Err, slice_index}
 use Rattle.svm_model.specs.declared.windows.GuestWindow.{GuestWindow}
 use Rattle.svm_model.specs.declared.windows.OutsideMemory.{OutsideMemory}
 
@@ -25,6 +25,14 @@ pub record SameOutside (window : GuestWindow) (old new : List ℕ) : Type 0 wher
 abbrev pub bytes_at : List ℕ → ℕ → ℕ → Result (List ℕ) OutsideMemory
 bytes_at memory at count =
     if nat_le (at + count) (length memory) then Ok (take count (drop at memory)) else Err (record { address = max at (length memory) })
+
+abbrev pub first_of : Result (List ℕ) OutsideMemory → Result ℕ OutsideMemory
+first_of (Ok bytes) = Ok (slice_index bytes 0)
+first_of (Err outside) = Err outside
+
+-- the byte at an address, or the address where it is outside
+abbrev pub byte_at : List ℕ → ℕ → Result ℕ OutsideMemory
+byte_at memory at = first_of (bytes_at memory at 1)
 
 -- memory with these bytes at an address
 abbrev pub put_at : List ℕ → ℕ → List ℕ → List ℕ

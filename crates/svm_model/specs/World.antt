@@ -1,6 +1,7 @@
 -- The plain machine: a world of guests beside the bus of their port devices, and what each event makes of both. It walks
 -- from the root at each access.
-use Rattle.std.specs.Prelude.{◌≡◌, ℕ, ◌+◌, ◌*◌, ◌&&◌, ◌==◌, List, [], ◌∷◌, Bool, true, false, if◌then◌else◌, Option, Some, None, length, map, replicate, slice_get, slice_set, ◌<◌}
+use Rattle.std.specs.Prelude.{◌≡◌, ℕ, ◌+◌, ◌*◌, ◌%◌, ◌&&◌, ◌==◌, List, [], ◌∷◌, Bool, true, false, if◌then◌else◌, Option, Some, None, length, map, replicate, slice_get, slice_set, ◌<◌}
+use Rattle.std.specs.List.{All}
 use Rattle.svm_model.specs.Bus.{Bus, device_count, bus_after_feed, bus_after_unplug}
 use Rattle.svm_model.specs.Bytes.{put_at}
 use Rattle.svm_model.specs.Course.{Way, Told, Turned, play}
@@ -234,6 +235,20 @@ IsNamed shape (Place cpu id) = (cpu.0 < shape.cpus) × IsVcpu shape id
 IsNamed shape (Run cpu) = cpu.0 < shape.cpus
 IsNamed shape (Feed device value) = device < device_count
 IsNamed shape (Unplug device) = device < device_count
+
+-- What holds of each world.
+
+-- no vcpu stands on two processors
+abbrev pub IsOneToOne : List (Option VcpuId) → Type 0
+IsOneToOne placing =
+    (cpu other : ℕ) (id : VcpuId) → slice_get placing cpu ≡ Some (Some id) → slice_get placing other ≡ Some (Some id) → cpu ≡ other
+
+-- each processor has a place, each placed vcpu is there and stands on one processor alone, and memory has whole pages
+pub record IsWellFormed (w : World) : Type 0 where
+  pub processors : length w.placing ≡ w.cpus
+  pub there : (cpu : ℕ) (id : VcpuId) → slice_get w.placing cpu ≡ Some (Some id) → IsVcpu (world_shape w) id
+  pub one_to_one : IsOneToOne w.placing
+  pub pages : All (λ (guest : Guest). length guest.memory % 4096 ≡ 0) w.guests
 
 -- What the machine runs: one processor, and one guest with one vcpu.
 abbrev pub single : Shape

@@ -1,4 +1,4 @@
-pub mod Behind
+pub mod Endings
 pub mod Events
 pub mod Received
 pub mod Reports

@@ -1,9 +1,10 @@
 -- What a sink has received when there was no memory.
 use Rattle.std.proofs.Common.{◌≡◌, ℕ, List, [], Option, Some, None, ap, sym, refl, subst, append-nil, inl, inr}
 use Rattle.byte_shelf.specs.Sink.{appended, IsCutShort}
-use Rattle.svm_run.specs.Outcome.{ReceivesLine, ReceivesPart}
+use Rattle.svm_run.specs.Answers.{ReceivesLine, ReceivesPart}
 
-appended-nothing : (written : Option (List ℕ)) → appended written [] ≡ written
+-- nothing was received
+pub appended-nothing : (written : Option (List ℕ)) → appended written [] ≡ written
 appended-nothing None = refl
 appended-nothing (Some bytes) = ap Some (append-nil bytes)
 
@@ -24,4 +25,4 @@ behind old mid new text line r s cut cause h = record {
   line_after = let P : Option (List ℕ) → Type 0 = λ o. ReceivesLine o new line s in subst P cut.written (because mid new line r s cause h);
 }
 
-pub ruleset received = (at_once)
+pub ruleset received = (at_once, behind)

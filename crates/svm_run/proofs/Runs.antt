@@ -7,53 +7,54 @@ use Rattle.svm_model.specs.Script.{Script, events_of}
 use Rattle.svm_model.specs.World.{World, Led, world_of, plain_run}
 use Rattle.svm_model.specs.declared.names.Event.{Event}
 use Rattle.svm_model.proofs.WorldLemmas.{run-counted}
-use Rattle.svm_run.specs.Outcome.{bus_after, ran, finished}
+use Rattle.svm_run.specs.Jobs.{Job, job}
+use Rattle.svm_run.specs.Outcome.{completed, outcome_after, led_until}
 use Rattle.svm_run.proofs.Events.{led, led_same}
 
 led_parts : (l : Led) → led l.world l.bus ≡ l
 led_parts l = refl
 
 -- the machine and the bus stand where the run leads
-pub led-ran : (w v : World) (bus now : Bus) (image : Image) (script : Script) → w ≡ world_of image → v ≡ (plain_run w bus (events_of script)).world →
-    now ≡ (plain_run w bus (events_of script)).bus → finished (led v now) ≡ ran bus image script
-unfolding ran
-led-ran w v bus now image script e f g =
-    ap finished (led_same _ _ _ _ f g ∙ led_parts (plain_run w bus (events_of script)) ∙ ap (λ u. plain_run u bus (events_of script)) e)
+pub led-completed : (w v : World) (bus now : Bus) (image : Image) (script : Script) → w ≡ world_of image → v ≡ (plain_run w bus (events_of script)).world →
+    now ≡ (plain_run w bus (events_of script)).bus → outcome_after (led v now) ≡ completed bus (job image script)
+unfolding completed
+led-completed w v bus now image script e f g =
+    ap outcome_after (led_same _ _ _ _ f g ∙ led_parts (plain_run w bus (events_of script)) ∙ ap (λ u. plain_run u bus (events_of script)) e)
 
 starts-at-0 : (image : Image) → (world_of image).event ≡ 0
 unfolding world_of
 starts-at-0 image = refl
 
 -- a run has the script's events
-events-ran : (bus : Bus) (image : Image) (script : Script) → length (events_of script) ≡ script.events → (ran bus image script).events ≡ script.events
-unfolding ran finished
-events-ran bus image script whole =
+events-completed : (bus : Bus) (image : Image) (script : Script) → length (events_of script) ≡ script.events → (completed bus (job image script)).events ≡ script.events
+unfolding completed outcome_after
+events-completed bus image script whole =
     omega (arith, run-counted (world_of image) bus (events_of script), starts-at-0 image, whole)
 
 -- forty reads at most for each event
-pub reads-ran : (old new : ℕ) (bus : Bus) (image : Image) (script : Script) → length (events_of script) ≡ script.events → new ≤ old + 40 * script.events →
-    new ≤ old + 40 * (ran bus image script).events
-reads-ran old new bus image script whole h =
+pub reads-completed : (old new : ℕ) (bus : Bus) (image : Image) (script : Script) → length (events_of script) ≡ script.events → new ≤ old + 40 * script.events →
+    new ≤ old + 40 * (completed bus (job image script)).events
+reads-completed old new bus image script whole h =
     let P : ℕ → Type 0 = λ count. new ≤ old + 40 * count in
-    subst P (sym (events-ran bus image script whole)) h
+    subst P (sym (events-completed bus image script whole)) h
 
 -- The bus behind some first events.
 
-pub bus-none : (bus : Bus) (image : Image) (script : Script) → bus ≡ bus_after 0 bus image script
-unfolding bus_after
-bus-none bus image script = refl
+pub bus-none : (bus : Bus) (j : Job) → bus ≡ (led_until 0 bus j).bus
+unfolding led_until
+bus-none bus j = refl
+
+-- some first events from the image's world
+pub led-some : (w : World) (bus : Bus) (image : Image) (script : Script) (count : ℕ) → w ≡ world_of image → plain_run w bus (take count (events_of script)) ≡ led_until count bus (job image script)
+unfolding led_until
+led-some w bus image script count e = ap (λ u. plain_run u bus (take count (events_of script))) e
 
 pub bus-some : (w : World) (bus now : Bus) (image : Image) (script : Script) (count : ℕ) → w ≡ world_of image → now ≡ (plain_run w bus (take count (events_of script))).bus →
-    now ≡ bus_after count bus image script
-unfolding bus_after
-bus-some w bus now image script count e g = g ∙ ap (λ u. (plain_run u bus (take count (events_of script))).bus) e
+    now ≡ (led_until count bus (job image script)).bus
+bus-some w bus now image script count e g = g ∙ ap (λ (l : Led). l.bus) (led-some w bus image script count e)
 
 pub bus-all : (w : World) (bus now : Bus) (image : Image) (script : Script) → w ≡ world_of image → now ≡ (plain_run w bus (events_of script)).bus →
-    now ≡ bus_after (length (events_of script)) bus image script
+    now ≡ (led_until (length (events_of script)) bus (job image script)).bus
 bus-all w bus now image script e g =
     bus-some w bus now image script (length (events_of script)) e
     (g ∙ ap (λ (es : List Event). (plain_run w bus es).bus) (sym (take-length (events_of script))))
-
-pub bus-finished : (v : World) (now : Bus) → now ≡ (finished (led v now)).bus
-unfolding finished
-bus-finished v now = refl

@@ -1,3 +1,6 @@
+pub mod Answers
+pub mod Jobs
 pub mod Outcome
 pub mod StatusLine
+pub mod Statuses
 pub mod Words

@@ -1,4 +1,4 @@
--- The exit code of a status, and the line that a refusal prints.
+-- The line that a refusal prints.
 use Rattle.std.specs.Prelude.{ℕ, List, [], if◌then◌else◌, codes}
 use Rattle.std.specs.Fmt.{decimal}
 use Rattle.svm_model.specs.Text.{◌⧺◌, newline, image_reason_name, script_reason_name}
@@ -8,14 +8,6 @@ use Rattle.svm_run.specs.declared.status.Status.{Status}
 use Rattle.svm_run.specs.declared.status.Status.TheVariants.{Done, Words, Input, OutsideFault, NoMemory, LeftProfile}
 use Rattle.svm_run.specs.declared.status.InputFault.TheVariants.{Missing, Image, Script}
 use Rattle.svm_run.specs.declared.status.OutsideFault.TheVariants.{Read, Write, Device}
-
-abbrev pub exit_code : Status → ℕ
-exit_code Done = 0
-exit_code Words = 1
-exit_code (Input fault) = 2
-exit_code (OutsideFault fault) = 4
-exit_code NoMemory = 5
-exit_code LeftProfile = 6
 
 unfoldable pub image_line : ℕ → ImageReason → List ℕ
 image_line place reason = codes "refused image place=" ⧺ decimal place ⧺ codes " reason=" ⧺ image_reason_name reason ⧺ newline

@@ -1,9 +1,10 @@
 // Reads the image and the script.
-ghost use Rattle.std.specs.Prelude.{◌≡◌, ◌≤◌, true, length, IfOk, IfErr, IfSome};
+ghost use Rattle.std.specs.Prelude.{◌≡◌, ◌≤◌, ◌+◌, ℕ, true, length, IfOk, IfErr, IfSome};
 ghost use Rattle.svm_model.specs.Image.{IsLawfulImage, image_of};
 ghost use Rattle.svm_model.specs.Script.{IsLawful, events_of, script_of};
 ghost use Rattle.svm_model.specs.World.{image_shape, is_offered as offered_test, is_offered_guest, is_offered_vcpu};
-ghost use Rattle.svm_run.specs.Outcome.{image_in, image_said, script_in, script_said, Gives, HasReadCause, IsInputOrMemory};
+ghost use Rattle.svm_run.specs.Answers.{IsAsTold, IsOfReading};
+ghost use Rattle.svm_run.specs.Jobs.{image_in, image_said, script_in, script_said};
 
 use crate::status::{InputFault, OutsideFault, Status};
 use byte_shelf::{ReadAll, Shelf, read_all};
@@ -49,10 +50,10 @@ fn image_fault(place: u32, reason: ImageReason) -> Status
 
 /// The image that the bytes are, where the machine can run it.
 pub fn accept_image(alloc: Global, bytes: &[u8]) -> Result<Image, Status>
-    ensures exact { Gives (λ image. image) result (image_said (image_of bytes.now)) }
+    ensures exact { IsAsTold (λ image. image) result (image_said (image_of bytes.now)) }
     ensures lawful { IfOk result IsLawfulImage }
     ensures offered { IfOk result (λ image. offered_test image ≡ true) }
-    ensures cause { IfErr result IsInputOrMemory }
+    ensures cause { (before now : ℕ) → IfErr result (λ status. IsOfReading status before now) }
 {
     let image = match parse_image(alloc, bytes) {
         Ok(image) => image,
@@ -66,14 +67,15 @@ pub fn accept_image(alloc: Global, bytes: &[u8]) -> Result<Image, Status>
 }
 
 /// Reads an image from a shelf.
-#[tactic(auto, unfolding(crate::specs::Outcome::image_in))]
+#[tactic(auto, unfolding(crate::specs::Jobs::image_in))]
 pub fn open_image<H: Shelf>(alloc: Global, shelf: &mut H, name: &str) -> Result<Image, Status>
-    ensures exact { IfSome (H.files shelf.old) (λ _. Gives (λ image. image) result (image_in (H.files shelf.old) name.now)) }
+    ensures exact { IfSome (H.files shelf.old) (λ _. IsAsTold (λ image. image) result (image_in (H.files shelf.old) name.now)) }
     ensures lawful { IfOk result IsLawfulImage }
     ensures offered { IfOk result (λ image. offered_test image ≡ true) }
-    ensures cause { IfErr result (HasReadCause (H.faults shelf.old) (H.faults shelf.new)) }
+    ensures cause { IfErr result (λ status. IsOfReading status (H.faults shelf.old) (H.faults shelf.new)) }
     ensures files { H.files shelf.new ≡ H.files shelf.old }
     ensures later { H.faults shelf.old ≤ H.faults shelf.new }
+    ensures calls { H.calls shelf.new ≤ H.calls shelf.old + 67108866 }
 {
     let bytes = match read_all(alloc, shelf, name, IMAGE_LIMIT) {
         Ok(bytes) => bytes,
@@ -94,10 +96,10 @@ fn script_fault(line: u32, reason: ScriptReason) -> Status
 /// The script that the bytes are for an image.
 fn accept_script(alloc: Global, bytes: &[u8], image: &Image) -> Result<Script, Status>
     requires { IsLawfulImage image.now }
-    ensures exact { Gives (λ script. script) result (script_said (script_of bytes.now image.now)) }
+    ensures exact { IsAsTold (λ script. script) result (script_said (script_of bytes.now image.now)) }
     ensures lawful { IfOk result (IsLawful (image_shape image.now)) }
     ensures count { IfOk result (λ script. length (events_of script) ≡ script.events) }
-    ensures cause { IfErr result IsInputOrMemory }
+    ensures cause { (before now : ℕ) → IfErr result (λ status. IsOfReading status before now) }
 {
     match parse_script(alloc, bytes, image) {
         Ok(script) => Ok(script),
@@ -107,7 +109,7 @@ fn accept_script(alloc: Global, bytes: &[u8], image: &Image) -> Result<Script, S
 }
 
 /// Reads a script for an image from a shelf.
-#[tactic(auto, unfolding(crate::specs::Outcome::script_in))]
+#[tactic(auto, unfolding(crate::specs::Jobs::script_in))]
 pub fn open_script<H: Shelf>(
     alloc: Global,
     shelf: &mut H,
@@ -115,12 +117,13 @@ pub fn open_script<H: Shelf>(
     image: &Image,
 ) -> Result<Script, Status>
     requires { IsLawfulImage image.now }
-    ensures exact { IfSome (H.files shelf.old) (λ _. Gives (λ script. script) result (script_in image.now (H.files shelf.old) name.now)) }
+    ensures exact { IfSome (H.files shelf.old) (λ _. IsAsTold (λ script. script) result (script_in image.now (H.files shelf.old) name.now)) }
     ensures lawful { IfOk result (IsLawful (image_shape image.now)) }
     ensures count { IfOk result (λ script. length (events_of script) ≡ script.events) }
-    ensures cause { IfErr result (HasReadCause (H.faults shelf.old) (H.faults shelf.new)) }
+    ensures cause { IfErr result (λ status. IsOfReading status (H.faults shelf.old) (H.faults shelf.new)) }
     ensures files { H.files shelf.new ≡ H.files shelf.old }
     ensures later { H.faults shelf.old ≤ H.faults shelf.new }
+    ensures calls { H.calls shelf.new ≤ H.calls shelf.old + 1048578 }
 {
     let bytes = match read_all(alloc, shelf, name, SCRIPT_LIMIT) {
         Ok(bytes) => bytes,

@@ -1,8 +1,9 @@
 // Runs a script's events on the machine.
-ghost use Rattle.std.specs.Prelude.{◌≡◌, ℕ, ◌+◌, ◌*◌, ◌≤◌, false, length, take, OnOk, OnErr, IfErr};
+ghost use Rattle.std.specs.Prelude.{◌≡◌, ◌+◌, ◌*◌, ◌≤◌, false, length, OnOk, OnErr, IfErr};
 ghost use Rattle.svm_model.specs.Script.{IsLawful, events_of};
 ghost use Rattle.svm_model.specs.World.{world_shape, plain_run};
 ghost use Rattle.port_bus.specs.Causes.{Blames, NoneFell};
+ghost use Rattle.svm_run.specs.Answers.{IsCutAt};
 
 use host_memory::Steps;
 use plain_machine::PlainMachine;
@@ -10,7 +11,8 @@ use port_bus::{Bus, BusState, RunEnd};
 use script_format::Script;
 use std::sync::ledger::Ledger;
 
-/// Runs the events of a script, all of them or up to the first that the bus refuses. Ten reads at most are counted for each.
+/// Runs the events of a script, all of them or up to the first that the bus refuses. Forty reads at most are
+/// counted for each.
 #[tactic(auto, using(crate::proofs::Events::events, port_bus::proofs::Counts::counts))]
 pub fn run_events<L: Ledger>(
     machine: &mut PlainMachine,
@@ -26,8 +28,7 @@ pub fn run_events<L: Ledger>(
     requires going { machine.old.stopped ≡ false }
     ensures world { OnOk result (machine.new.world ≡ (plain_run machine.old.world (⟦<Bus as BusState>⟧.bus bus.old) (events_of script.now)).world) }
     ensures bus { OnOk result (⟦<Bus as BusState>⟧.bus bus.new ≡ (plain_run machine.old.world (⟦<Bus as BusState>⟧.bus bus.old) (events_of script.now)).bus) }
-    ensures cut { OnErr result ((count : ℕ) ×
-        (⟦<Bus as BusState>⟧.bus bus.new ≡ (plain_run machine.old.world (⟦<Bus as BusState>⟧.bus bus.old) (take count (events_of script.now))).bus)) }
+    ensures cut { OnErr result (IsCutAt machine.old.world (events_of script.now) (⟦<Bus as BusState>⟧.bus bus.old) (⟦<Bus as BusState>⟧.bus bus.new)) }
     ensures blamed { IfErr result (λ end. Blames end (⟦<Bus as BusState>⟧.faults bus.old) (⟦<Bus as BusState>⟧.faults bus.new)) }
     ensures shape { world_shape machine.new.world ≡ world_shape machine.old.world }
     ensures number { OnOk result (machine.new.world.event ≡ script.now.events) }

@@ -1,7 +1,7 @@
 // How a run of the program ends.
 
 ghost use Rattle.std.specs.Prelude.{◌≡◌};
-ghost use Rattle.svm_run.specs.StatusLine.{exit_code};
+ghost use Rattle.svm_run.specs.Statuses.{meaning_of};
 
 use svm_model::{ImageReason, ScriptReason};
 
@@ -47,7 +47,7 @@ pub enum Status {
 impl Status {
     /// The exit code of the program.
     pub fn code(&self) -> u8
-        ensures { result ≡ exit_code self.now }
+        ensures { result ≡ (meaning_of self.now).code }
     {
         match self {
             Status::Done => 0,

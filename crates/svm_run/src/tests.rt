@@ -237,6 +237,18 @@ fn jobs_end_as_the_formats_say(rt: HostRuntime) -> Result<(), Fail> {
         ),
         (
             Job {
+                words: &["run", "short.img", "one.script"],
+                sink_fails: Some(0),
+                ..HALT
+            },
+            Status::Input(InputFault::Image {
+                place: 15,
+                reason: ImageReason::Short,
+            }),
+            "",
+        ),
+        (
+            Job {
                 code: &[0x0f, 0xff],
                 ..HALT
             },

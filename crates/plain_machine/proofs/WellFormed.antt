@@ -1,0 +1,38 @@
+-- A world of one guest, one vcpu and one processor is well formed.
+use Rattle.std.proofs.Common.{◌≡◌, ◌∙◌, ℕ, zero, suc, ◌%◌, ◌<◌, List, [], ◌∷◌, length, Option, Some, None, ap, refl, sym, subst, arith, slice_get}
+use Rattle.std.specs.Option.{ForSome}
+use Rattle.std.proofs.lemmas.List.Elements.{All-from_recursion}
+use Rattle.svm_model.specs.Bytes.{IsWithin, guest_of}
+use Rattle.svm_model.specs.Guest.{Guest, Vcpu}
+use Rattle.svm_model.specs.World.{World, IsVcpu, IsWellFormed, single}
+use Rattle.svm_model.specs.declared.names.Ended.{Ended}
+use Rattle.svm_model.specs.declared.names.VcpuId.{VcpuId}
+use Rattle.svm_model.specs.declared.windows.GuestWindow.{GuestWindow}
+use Rattle.svm_model.proofs.WindowLemmas.{length-guest_of}
+use Rattle.plain_machine.specs.Single.{first_id, single_world}
+
+-- what stands on the one processor
+only_place : (placed : Option VcpuId) (cpu : ℕ) (id : VcpuId) → slice_get (placed ∷ []) cpu ≡ Some (Some id) → (cpu ≡ 0) × (placed ≡ Some id)
+only_place placed zero id e = (refl, (cc))
+only_place placed (suc cpu) id e = absurd (cc)
+
+named : (placed : Option VcpuId) (id : VcpuId) → ForSome placed (λ other. other ≡ first_id) → placed ≡ Some id → id ≡ first_id
+named None id h e = absurd (cc)
+named (Some other) id h e = let same : other ≡ id = cc in sym same ∙ h
+
+first_is_vcpu : IsVcpu single first_id
+first_is_vcpu = (1, refl, omega arith)
+
+pub single-well_formed : (version features : ℕ) (w : GuestWindow) (bytes : List ℕ) (ended : Option Ended) (vcpu : Vcpu) (placed : Option VcpuId) (event : ℕ) →
+    IsWithin w bytes → w.size % 4096 ≡ 0 → ForSome placed (λ id. id ≡ first_id) →
+    IsWellFormed (single_world version features (guest_of w bytes) ended vcpu placed event)
+single-well_formed version features w bytes ended vcpu placed event within whole first = record {
+  processors = refl;
+  there = λ cpu id e.
+      let P : VcpuId → Type 0 = λ v. IsVcpu single v in
+      subst P (sym (named placed id first (only_place placed cpu id e).1)) first_is_vcpu;
+  one_to_one = λ cpu other id e f. (only_place placed cpu id e).0 ∙ sym (only_place placed other id f).0;
+  pages = All-from_recursion (λ (guest : Guest). length guest.memory % 4096 ≡ 0) _ (ap (λ n. n % 4096) (length-guest_of w bytes within) ∙ whole, tt);
+}
+
+pub ruleset forms = (single-well_formed)

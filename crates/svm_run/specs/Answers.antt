@@ -1,0 +1,126 @@
+-- When an answer of the program is right: by what its status means.
+use Rattle.std.specs.Prelude.{◌≡◌, ◌⊎◌, ◌≤◌, ◌<◌, ℕ, List, [], Option, Some, None, Result, Ok, Err, length, slice_get, take}
+use Rattle.byte_shelf.specs.Sink.{appended, IsCutShort}
+use Rattle.fault_counts.specs.Causes.{Rose}
+use Rattle.svm_model.specs.Bus.{Bus}
+use Rattle.svm_model.specs.Script.{events_of}
+use Rattle.svm_model.specs.World.{World, HandsOver, plain_run}
+use Rattle.svm_model.specs.declared.names.Event.{Event}
+use Rattle.svm_model.specs.declared.names.RunEnd.TheVariants.{Device}
+use Rattle.port_bus.specs.Causes.{Blames}
+use Rattle.svm_run.specs.Jobs.{Job}
+use Rattle.svm_run.specs.Outcome.{led_until, text_until}
+use Rattle.svm_run.specs.StatusLine.{status_line}
+use Rattle.svm_run.specs.Statuses.{EventsRun, NoEvents, FirstEvents, NotAllEvents, AllEvents, Printed, WholeText, PartOfText, TextThenLine, PartThenLine, LineAlone, Blame, NothingOutside, TheShelf, TheSink, TheDevice, WantOfMemory, Meaning, meaning_of}
+use Rattle.svm_run.specs.declared.status.Status.{Status}
+use Rattle.svm_run.specs.declared.status.Status.TheVariants.{Input, OutsideFault, NoMemory}
+use Rattle.svm_run.specs.declared.status.OutsideFault.TheVariants.{Read}
+
+-- What a sink received.
+
+-- a line was received, or a part of it where the sink refused
+abbrev pub ReceivesLine : Option (List ℕ) → Option (List ℕ) → List ℕ → Type 0 → Type 0
+ReceivesLine old new line refused = (new ≡ appended old line) ⊎ (IsCutShort old new line × refused)
+
+-- a first part of a text was received, and then a line as above
+pub record ReceivesPart (old new : Option (List ℕ)) (text line : List ℕ) (refused : Type 0) : Type 0 where
+  pub count : ℕ
+  pub line_after : ReceivesLine (appended old (take count text)) new line refused
+
+abbrev pub Receives : Printed → (text line : List ℕ) → (old new : Option (List ℕ)) → Type 0 → Type 0
+Receives WholeText text line old new refused = new ≡ appended old text
+Receives PartOfText text line old new refused = IsCutShort old new text
+Receives TextThenLine text line old new refused = ReceivesLine (appended old text) new line refused
+Receives PartThenLine text line old new refused = ReceivesPart old new text line refused
+Receives LineAlone text line old new refused = ReceivesLine old new line refused
+
+-- How far the run came.
+
+-- so many events of all were run
+abbrev pub IsReached : EventsRun → (count all : ℕ) → Type 0
+IsReached NoEvents count all = count ≡ 0
+IsReached FirstEvents count all = count ≤ all
+IsReached NotAllEvents count all = count < all
+IsReached AllEvents count all = count ≡ all
+
+abbrev pub HandsOverIt : World → Bus → Option Event → Type 0
+HandsOverIt w bus None = ⊥
+HandsOverIt w bus (Some event) = HandsOver w bus event
+
+-- A list of events was run up to one that was refused: the bus is behind so many of the first, and the next one hands
+-- something to it.
+pub record IsCutAt (world : World) (events : List Event) (before after : Bus) : Type 0 where
+  pub count : ℕ
+  pub short : count < length events
+  pub bus : after ≡ (plain_run world before (take count events)).bus
+  pub refused : HandsOverIt (plain_run world before (take count events)).world after (slice_get events count)
+
+-- the event of this number, which was refused, hands something to the bus; any other way to end has no such event
+abbrev pub IsRefusedAt : EventsRun → ℕ → Bus → Job → Type 0
+IsRefusedAt NotAllEvents count bus job =
+    HandsOverIt (led_until count bus job).world (led_until count bus job).bus (slice_get (events_of job.script) count)
+IsRefusedAt _ count bus job = Unit {0}
+
+-- The run of a job came so far: one number of events says where the bus is and what was printed.
+pub record EndsRun (m : Meaning) (line : List ℕ) (job : Job) (before after : Bus) (old new : Option (List ℕ)) (refused : Type 0) : Type 0 where
+  pub count : ℕ
+  pub reached : IsReached m.events count (length (events_of job.script))
+  pub refused_at : IsRefusedAt m.events count before job
+  pub bus : after ≡ (led_until count before job).bus
+  pub printed : Receives m.printed (text_until count before job) line old new refused
+
+-- the program may end so before it has a job
+abbrev pub MayPrecede : EventsRun → Type 0
+MayPrecede NoEvents = Unit {0}
+MayPrecede FirstEvents = Unit {0}
+MayPrecede NotAllEvents = ⊥
+MayPrecede AllEvents = ⊥
+
+-- there is no job, so that no event was run and only the line may have been printed
+pub record EndsUnrun (m : Meaning) (line : List ℕ) (before after : Bus) (old new : Option (List ℕ)) (refused : Type 0) : Type 0 where
+  pub events : MayPrecede m.events
+  pub bus : after ≡ before
+  pub printed : Receives m.printed [] line old new refused
+
+-- what a status leaves behind: the bus, and what the sink received
+abbrev pub Ends : Status → Result Job Status → (before after : Bus) → (old new : Option (List ℕ)) → Type 0 → Type 0
+Ends status (Err told) before after old new refused = EndsUnrun (meaning_of status) (status_line status) before after old new refused
+Ends status (Ok job) before after old new refused = EndsRun (meaning_of status) (status_line status) job before after old new refused
+
+-- Causes.
+
+abbrev pub IsNothing : Blame → Type 0
+IsNothing NothingOutside = Unit {0}
+IsNothing _ = ⊥
+
+-- nothing outside is to blame: the words, the files and the run determine the status
+abbrev pub IsDetermined : Status → Type 0
+IsDetermined status = IsNothing (meaning_of status).blame
+
+abbrev pub AreNone : EventsRun → Type 0
+AreNone NoEvents = Unit {0}
+AreNone _ = ⊥
+
+-- no event was run, and the line alone was printed
+abbrev pub IsBeforeRun : Status → Type 0
+IsBeforeRun status = AreNone (meaning_of status).events
+
+-- what is blamed counted a fault: the counts of the shelf, the sink and the devices, before and after
+abbrev pub HasCause : Blame → (shelf shelf' sink sink' : ℕ) → (devices devices' : List (Option ℕ)) → Type 0
+HasCause NothingOutside shelf shelf' sink sink' devices devices' = Unit {0}
+HasCause TheShelf shelf shelf' sink sink' devices devices' = Rose shelf shelf'
+HasCause TheSink shelf shelf' sink sink' devices devices' = Rose sink sink'
+HasCause (TheDevice device) shelf shelf' sink sink' devices devices' = Blames (Device device) devices devices'
+HasCause WantOfMemory shelf shelf' sink sink' devices devices' = Unit {0}
+
+-- What a part of the work answered is what is told of it: an error that is determined is that error.
+abbrev pub IsAsTold : {A B : Type 0} → (A → B) → Result A Status → Result B Status → Type 0
+IsAsTold view (Ok x) told = told ≡ Ok (view x)
+IsAsTold view (Err status) told = IsDetermined status → told ≡ Err status
+
+-- an error of reading the input: it is refused, there was no memory, or the shelf counted a fault
+abbrev pub IsOfReading : Status → (before now : ℕ) → Type 0
+IsOfReading (Input fault) before now = Unit {0}
+IsOfReading (OutsideFault Read) before now = Rose before now
+IsOfReading NoMemory before now = Unit {0}
+IsOfReading _ before now = ⊥
