@@ -16,10 +16,6 @@ only_place : (placed : Option VcpuId) (cpu : ℕ) (id : VcpuId) → slice_get (p
 only_place placed zero id e = (refl, (cc))
 only_place placed (suc cpu) id e = absurd (cc)
 
-named : (placed : Option VcpuId) (id : VcpuId) → ForSome placed (λ other. other ≡ first_id) → placed ≡ Some id → id ≡ first_id
-named None id h e = absurd (cc)
-named (Some other) id h e = let same : other ≡ id = cc in sym same ∙ h
-
 first_is_vcpu : IsVcpu single first_id
 first_is_vcpu = (1, refl, omega arith)
 
@@ -30,9 +26,13 @@ single-well_formed version features w bytes ended vcpu placed event within whole
   processors = refl;
   there = λ cpu id e.
       let P : VcpuId → Type 0 = λ v. IsVcpu single v in
-      subst P (sym (named placed id first (only_place placed cpu id e).1)) first_is_vcpu;
+      subst P (sym (first id (only_place placed cpu id e).1)) first_is_vcpu;
   one_to_one = λ cpu other id e f. (only_place placed cpu id e).0 ∙ sym (only_place placed other id f).0;
-  pages = All-from_recursion (λ (guest : Guest). length guest.memory % 4096 ≡ 0) _ (ap (λ n. n % 4096) (length-guest_of w bytes within) ∙ whole, tt);
+  pages =
+      let guests : List Guest = record { memory = guest_of w bytes; ended = ended; vcpus = vcpu ∷ [] } ∷ [] in
+      All-from_recursion (λ (guest : Guest). length guest.memory % 4096 ≡ 0) guests (ap (λ n. n % 4096) (length-guest_of w bytes within) ∙ whole, tt);
 }
 
-pub ruleset forms = (single-well_formed)
+-- no vcpu is placed at first
+pub none_placed : (id : VcpuId) → None ≡ Some id → id ≡ first_id
+none_placed id e = absurd (cc)

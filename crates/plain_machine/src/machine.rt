@@ -245,7 +245,7 @@ impl PlainMachine {
     /// Only a feed, or a turn that writes to a port, may be refused: the answer is the bus's, which blames a device only where
     /// that counted a fault in this call. The bus is then as it was, and the machine stands where the event had come to, with
     /// the vcpu before its instruction, and is stopped.
-    #[tactic(auto, using(svm_model::proofs::EndLemmas::ends, crate::proofs::WellFormed::forms))]
+    #[tactic(auto, using(svm_model::proofs::EndLemmas::ends))]
     pub fn event<L: Ledger>(
         &mut self,
         event: Event,
@@ -354,7 +354,7 @@ impl PlainMachine {
     }
 
     /// The machine that an image starts: the one guest's memory with its segments, its vcpu as it starts, and no vcpu placed.
-    #[tactic(auto, using(crate::proofs::WellFormed::forms), unfolding(svm_model::specs::World::world_of))]
+    #[tactic(auto, unfolding(svm_model::specs::World::world_of))]
     pub fn open(alloc: Global, image: &Image) -> Result<PlainMachine, NoMemory>
         requires lawful { IsLawfulImage image.now }
         requires offered { is_offered image.now ≡ true }

@@ -3,6 +3,7 @@ use Rattle.svm_model.specs.Image.{ImageGuest}
 use Rattle.svm_model.specs.World.{world_of, world_shape, is_offered}
 use Rattle.svm_model.proofs.WorldLemmas.{world_shape-world_of}
 use Rattle.plain_machine.proofs.Opening.{opened}
+use Rattle.plain_machine.proofs.WellFormed.{single-well_formed, none_placed}
 use Rattle.plain_machine.proofs.machine.PlainMachine.open.Goals as goal
 
 pub returns-clause-world : goal.returns-clause-world
@@ -14,3 +15,7 @@ returns-clause-world c =
 
 pub returns-clause-shape : goal.returns-clause-shape
 returns-clause-shape c = ap world_shape (returns-clause-world c) ∙ world_shape-world_of c.args.image.now
+
+pub returns-clause-well_formed : goal.returns-clause-well_formed
+returns-clause-well_formed c =
+    single-well_formed _ _ c.in_ok-memory.window _ _ _ _ _ c.in_ok-memory.ensures.window c.in_ok-memory.ensures.pages none_placed
