@@ -33,9 +33,9 @@ impl HostMemory {
         Ok(HostMemory { bytes })
     }
 
-    /// Reads bytes of the guest's memory, from a guest-physical address on, into the front of `into`. It is the only
-    /// way to learn a byte, and counts one whether or not the bytes are there. Where one of them is not, the answer
-    /// is the first such address, and `into` stays.
+    /// Reads bytes of the guest's memory, from a guest-physical address on, into the front of `into`. It counts one
+    /// whether or not the bytes are there, and no other call tells a byte, so the count is that of all reads. Where a
+    /// byte is not there, the answer is the first such address, and `into` stays.
     #[tactic(auto, using(svm_model::proofs::WindowLemmas::windows))]
     pub fn read_guest<L: Ledger>(
         &self,

@@ -32,7 +32,8 @@ pub record World : Type 0 where
   pub placing : List (Option VcpuId)
   pub event : ℕ
 
--- The world of an image: later segments overwrite earlier ones, other memory is 0, and no vcpu is placed.
+-- The world of an image: zeros, and over them the segments in order, so that the last one counts where several lie. No
+-- vcpu is placed.
 abbrev pub loaded : List ℕ → List ImageSegment → List ℕ
 loaded memory [] = memory
 loaded memory (segment ∷ segments) = loaded (put_at memory segment.address segment.bytes) segments

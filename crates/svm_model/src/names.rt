@@ -42,8 +42,8 @@ pub struct Access {
 /// One event of a schedule.
 #[derive(Clone, Copy, Debug, PartialEq, Eq)]
 pub enum Event {
-    /// Moves a vcpu to a processor. A vcpu that stood there is then placed nowhere, and the processor that the moved
-    /// one left is empty.
+    /// Moves a vcpu to a processor, from the one where it stood, which is then empty. Whichever vcpu was on the new
+    /// one is on none.
     Place { cpu: CpuId, vcpu: VcpuId },
     /// One turn of the vcpu that is placed on a processor, or nothing.
     Run { cpu: CpuId },
