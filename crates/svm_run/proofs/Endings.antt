@@ -1,5 +1,5 @@
 -- How the runs of a job end, by what ended them.
-use Rattle.std.proofs.Common.{◌≡◌, ◌∙◌, ℕ, ◌≤◌, ◌<◌, ◌==◌, Bool, true, false, List, [], Option, Some, None, Result, Ok, Err, IfSome, length, slice_get, ap, refl, sym, subst, arith}
+use Rattle.std.proofs.Common.{◌≡◌, ◌∙◌, ℕ, ◌≤◌, ◌<◌, ◌==◌, Bool, true, false, List, [], Option, Some, None, Result, Ok, Err, IfSome, length, slice_get, take, ap, refl, sym, subst, arith}
 use Rattle.std.proofs.lemmas.Bool.Decides.{nat_tests}
 use Rattle.byte_shelf.specs.Shelf.{Files}
 use Rattle.byte_shelf.specs.Sink.{appended}
@@ -12,7 +12,7 @@ use Rattle.svm_run.specs.Answers.{Ends, EndsRun, EndsUnrun, HandsOverIt, IsCutAt
 use Rattle.svm_run.specs.Jobs.{Job, job, job_with_names, image_in, script_in}
 use Rattle.svm_run.specs.Outcome.{completed, outcome_after, led_until, text_until}
 use Rattle.svm_run.specs.StatusLine.{status_line}
-use Rattle.svm_run.specs.Statuses.{Meaning, Blame, FirstEvents, NotAllEvents, TextThenLine, PartThenLine, meaning}
+use Rattle.svm_run.specs.Statuses.{Meaning, Blame, FirstEvents, NotAllEvents, TextThenLine, PartThenLine, meaning, meaning_of}
 use Rattle.svm_run.specs.declared.status.Status.{Status}
 use Rattle.svm_run.specs.declared.status.Status.TheVariants.{Done, Words, Input, OutsideFault, NoMemory, LeftProfile}
 use Rattle.svm_run.specs.declared.status.OutsideFault.TheVariants.{Read, Write, Device}
@@ -95,6 +95,12 @@ ends-cut code blame line w bus now image script old new r e cut h = record {
   printed = at_once old new (text_until cut.count bus (job image script)) line r h;
 }
 
+-- the status that is answered is the one whose line was printed
+pub answered : (answer status : Status) (j : Job) (before after : Bus) (old new : Option (List ℕ)) (r : Type 0) → answer ≡ status →
+    EndsRun (meaning_of status) (status_line status) j before after old new r → EndsRun (meaning_of answer) (status_line answer) j before after old new r
+answered answer status j before after old new r e h =
+    let P : Status → Type 0 = λ s. EndsRun (meaning_of s) (status_line s) j before after old new r in subst P (sym e) h
+
 -- Before a run.
 
 unread : (status : Status) (j : Job) (s t : ℕ) (bus : Bus) (old new : Option (List ℕ)) (r : Type 0) → IsOfReading status s t →
@@ -125,25 +131,10 @@ ends-by (Ok j) status s t bus old new r h k = unread status j s t bus old new r 
 ends-by (Err told) status s t bus old new r h k = untold status told s t bus old new r h k
 
 -- the input could not be read, or is refused
-pub ends-unread : (files : Option Files) (names : Option (List ℕ × List ℕ)) (status : Status) (s t : ℕ) (bus : Bus) (old new : Option (List ℕ)) (r : Type 0) →
-    IsOfReading status s t → ReceivesLine old new (status_line status) r → IfSome files (λ _. Ends status (job_with_names files names) bus bus old new r)
-ends-unread None names status s t bus old new r h k = tt
-ends-unread (Some told) names status s t bus old new r h k = ends-by (job_with_names (Some told) names) status s t bus old new r h k
-
--- the words are not those of a job
-pub ends-unnamed : (files : Option Files) (names : Option (List ℕ × List ℕ)) (bus : Bus) (old new : Option (List ℕ)) (r : Type 0) → names ≡ None →
-    ReceivesLine old new (status_line Words) r → IfSome files (λ _. Ends Words (job_with_names files names) bus bus old new r)
-ends-unnamed None names bus old new r e k = tt
-ends-unnamed (Some told) names bus old new r e k =
-    let P : Option (List ℕ × List ℕ) → Type 0 = λ ns. Ends Words (job_with_names (Some told) ns) bus bus old new r in
-    subst P (sym e) (record { events = tt; bus = refl; printed = k })
-
--- the job that words name over these files
-pub job-named : (files later : Option Files) (names : Option (List ℕ × List ℕ)) (image_name script_name : List ℕ) (image : Image) (script : Script) (P : Result Job Status → Type 0) →
-    later ≡ files → names ≡ Some (image_name, script_name) → IfSome files (λ _. image_in files image_name ≡ Ok image) →
-    IfSome later (λ _. script_in image later script_name ≡ Ok script) → P (Ok (job image script)) → IfSome files (λ _. P (job_with_names files names))
-job-named None later names image_name script_name image script P same named a b p = tt
-job-named (Some told) later names image_name script_name image script P same named a b p =
-    let Q : Option Files → Type 0 = λ files. IfSome files (λ _. script_in image files script_name ≡ Ok script) in
-    let there : script_in image (Some told) script_name ≡ Ok script = subst Q same b in
-    rw (named, a, there) p
+pub ends-unread : (files : Option Files) (names : Option (List ℕ × List ℕ)) (answer status : Status) (s t : ℕ) (bus : Bus) (old new : Option (List ℕ)) (r : Type 0) →
+    answer ≡ status → IsOfReading status s t → ReceivesLine old new (status_line status) r →
+    IfSome files (λ _. Ends answer (job_with_names files names) bus bus old new r)
+ends-unread None names answer status s t bus old new r e h k = tt
+ends-unread (Some told) names answer status s t bus old new r e h k =
+    let P : Status → Type 0 = λ a. Ends a (job_with_names (Some told) names) bus bus old new r in
+    subst P (sym e) (ends-by (job_with_names (Some told) names) status s t bus old new r h k)
