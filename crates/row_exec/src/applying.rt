@@ -1,7 +1,7 @@
 // What applying a row does.
 ghost use Rattle.std.specs.Prelude.{◌≡◌, IsTrue};
 ghost use Rattle.svm_model.specs.Operands.{state};
-ghost use Rattle.svm_model.specs.Locking.{takes_lock, lock_is_undefined};
+ghost use Rattle.svm_model.specs.Locking.{lock_is_undefined};
 ghost use Rattle.svm_model.specs.UserRows.{is_user_row};
 ghost use Rattle.svm_model.specs.Apply.{done_op, applied_op, applied, answer_of, state_after, others_of};
 
@@ -27,6 +27,7 @@ use crate::operands::is_memory;
 use crate::register_file::read_flags;
 use crate::shift_rows::apply_shift;
 use crate::sources::destination;
+use row_table::takes_lock;
 use svm_model::{Applied, Cause, LogicKind, Op, Registers, Row, ShiftKind, Trap};
 
 const INVALID_OPCODE: Trap = Trap {
@@ -36,78 +37,13 @@ const INVALID_OPCODE: Trap = Trap {
     cause: Cause::Fault,
 };
 
-/// Whether the instruction may have a LOCK prefix, where it writes memory.
-#[tactic(auto, unfolding(svm_model::specs::Locking::takes_lock))]
-fn takes_lock(op: Op) -> bool
-    ensures { result ≡ takes_lock op }
-{
-    matches!(
-        op,
-        Op::Add
-            | Op::Or
-            | Op::Adc
-            | Op::Sbb
-            | Op::And
-            | Op::Sub
-            | Op::Xor
-            | Op::Not
-            | Op::Neg
-            | Op::Inc
-            | Op::Dec
-            | Op::Xchg
-            | Op::Cmpxchg
-            | Op::Xadd
-            | Op::Bts
-            | Op::Btr
-            | Op::Btc
-    )
-}
-
 /// Whether the row has a LOCK prefix where none may stand, which is #UD: its instruction takes none, or its destination
 /// is a register (volume 3, 'Lock Prefix'). Rows other than user rows take none.
 #[tactic(auto, unfolding(svm_model::specs::Locking::lock_is_undefined))]
 pub fn lock_is_undefined(row: &Row) -> bool
     ensures { result ≡ lock_is_undefined row.now }
 {
-    row.lock && !(takes_lock(row.op) && is_memory(destination(row)))
-}
-
-/// Whether the row is one that `apply` is for: all but those that need what is beyond the general registers and memory,
-/// such as a port, an event or a change of privilege or of paging.
-#[tactic(auto, unfolding(svm_model::specs::UserRows::is_user_row))]
-pub fn is_user_row(op: Op) -> bool
-    ensures { result ≡ is_user_row op }
-{
-    match op {
-        // flags and events
-        Op::Pause
-        | Op::Hlt
-        | Op::Ud2
-        | Op::Cli
-        | Op::Sti
-        | Op::Pushfq
-        | Op::Popfq
-        | Op::Int3
-        | Op::Int
-        | Op::Iretq => false,
-        // ports and system registers
-        Op::In
-        | Op::Out
-        | Op::MovCr
-        | Op::MovDr
-        | Op::Rdmsr
-        | Op::Wrmsr
-        | Op::Cpuid
-        | Op::Rdtsc
-        | Op::Lgdt
-        | Op::Lidt
-        | Op::Invlpg
-        | Op::Swapgs => false,
-        // virtual machines
-        Op::Vmrun | Op::Vmmcall | Op::Vmload | Op::Vmsave | Op::Stgi | Op::Clgi | Op::Invlpga =>
-            false,
-        _ => true,
-    }
+    row.lock && !(takes_lock(row) && is_memory(destination(row)))
 }
 
 /// Applies a row that never faults.

@@ -2,7 +2,7 @@
 ghost use Rattle.std.specs.Prelude.{◌≡◌, ◌^◌, ◌<◌};
 ghost use Rattle.svm_model.specs.Widths.{bits};
 ghost use Rattle.svm_model.specs.Operands.{state};
-ghost use Rattle.svm_model.specs.Moves.{moves, source_width, moves_extended_by_zeros, extended_by_sign, moves_extended_by_sign, loads_address, moves_where, sets_where, half_of, extends_accumulator, spreads_sign};
+ghost use Rattle.svm_model.specs.Moves.{moves, moves_extended_by_zeros, extended_by_sign, moves_extended_by_sign, loads_address, moves_where, sets_where, half_of, extends_accumulator, spreads_sign};
 
 use crate::conditions::condition_holds;
 use crate::operands::{
@@ -11,7 +11,8 @@ use crate::operands::{
 use crate::register_file::{read_flags, write_rip};
 use crate::sources::{destination, source_value};
 use crate::widths::{is_negative, ones};
-use svm_model::{Form, Registers, Row, Width};
+use row_table::operand_width;
+use svm_model::{Registers, Row, Width};
 
 /// MOV.
 #[tactic(auto, unfolding(svm_model::specs::Moves::moves))]
@@ -29,18 +30,6 @@ pub fn apply_move(
     write_rip(registers, next_rip);
 }
 
-/// The width of the source of MOVZX, MOVSX and MOVSXD.
-#[tactic(auto, unfolding(svm_model::specs::Moves::source_width))]
-fn source_width(form: Form) -> Width
-    ensures { result ≡ source_width form }
-{
-    match form {
-        Form::Movzx0FB6 | Form::Movsx0FBE => Width::W8,
-        Form::Movsxd63 => Width::W32,
-        _ => Width::W16,
-    }
-}
-
 /// MOVZX.
 #[tactic(auto, unfolding(svm_model::specs::Moves::moves_extended_by_zeros))]
 pub fn apply_zero_extension(
@@ -52,7 +41,7 @@ pub fn apply_zero_extension(
 )
     ensures { state registers.new results.new ≡ moves_extended_by_zeros row.now next_rip values.now (state registers.old results.old) }
 {
-    let value = operand_value(source_width(row.form), row.operand, registers, values);
+    let value = operand_value(operand_width(row), row.operand, registers, values);
     write_operand(
         row.width,
         register_named(row.register),
@@ -88,7 +77,7 @@ pub fn apply_sign_extension(
 )
     ensures { state registers.new results.new ≡ moves_extended_by_sign row.now next_rip values.now (state registers.old results.old) }
 {
-    let from = source_width(row.form);
+    let from = operand_width(row);
     let value = extended_by_sign(from, operand_value(from, row.operand, registers, values));
     write_operand(
         row.width,

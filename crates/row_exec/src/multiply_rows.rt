@@ -9,9 +9,9 @@ use crate::operands::{
     ACCUMULATOR, operand_value, register_named, upper_accumulator, write_operand,
 };
 use crate::register_file::{cut, read_flags, write_flags, write_rip};
-use crate::sources::has_immediate;
 use flag_math::{divide, multiply};
-use svm_model::{Applied, Cause, Form, Registers, Row, Trap, Width};
+use row_table::{has_immediate, has_one_operand};
+use svm_model::{Applied, Cause, Registers, Row, Trap, Width};
 
 const DIVIDE_ERROR: Trap = Trap {
     vector: 0,
@@ -92,14 +92,6 @@ fn apply_multiplication_into_register(
     );
     write_flags(registers, flags);
     write_rip(registers, next_rip);
-}
-
-/// Whether IMUL has one operand.
-#[tactic(auto, unfolding(svm_model::specs::MultiplyRows::has_one_operand))]
-fn has_one_operand(form: Form) -> bool
-    ensures { result ≡ has_one_operand form }
-{
-    matches!(form, Form::ImulF6 | Form::ImulF7)
 }
 
 /// IMUL.

@@ -194,7 +194,7 @@ const ROWS: [Case; 268] = [
     case!([0x4c, 0x86, 0xcf], 3, Xchg, Xchg86, W8, false, 9, (register 7), 0, 0), // rex.WR xchg dil,r9b
     case!([0x65, 0x66, 0x40, 0x87, 0xf4], 5, Xchg, Xchg87, W16, false, 6, (register 4), 0, 0), // gs rex xchg sp,si
     case!([0x41, 0x90], 2, Xchg, Xchg90, W32, false, 0, (register 8), 0, 0), // xchg r8d,eax
-    case!([0x64, 0x95], 2, Xchg, Xchg90, W32, false, 0, (register 5), 0, 0), // fs xchg ebp,eax
+    case!([0x64, 0x95], 2, Xchg, Xchg91, W32, false, 0, (register 5), 0, 0), // fs xchg ebp,eax
     case!([0xf0, 0x64, 0x49, 0x0f, 0xb0, 0xee], 6, Cmpxchg, Cmpxchg0FB0, W8, true, 5, (register 14), 0, 0), // lock fs rex.WB cmpxchg r14b,bpl
     case!([0x0f, 0xb1, 0x10], 3, Cmpxchg, Cmpxchg0FB1, W32, false, 2, (memory 0 _ 1 0 0), 0, 0), // cmpxchg DWORD PTR [rax],edx
     case!([0x65, 0x44, 0x0f, 0xc0, 0x3d, 0x78, 0x56, 0x34, 0x12], 9, Xadd, Xadd0FC0, W8, false, 15, (next 0x1234_5678 5), 0, 0), // xadd BYTE PTR gs:[rip+0x12345678],r15b
@@ -362,8 +362,8 @@ const ROWS: [Case; 268] = [
     case!([0x66, 0x90], 2, Nop, Nop90, W16, false, 0, (none), 0, 0), // xchg ax,ax
     case!([0x48, 0x90], 2, Nop, Nop90, W64, false, 0, (none), 0, 0), // rex.W nop
     case!([0x49, 0x90], 2, Xchg, Xchg90, W64, false, 0, (register 8), 0, 0), // xchg r8,rax
-    case!([0x49, 0x91], 2, Xchg, Xchg90, W64, false, 0, (register 9), 0, 0), // xchg r9,rax
-    case!([0x66, 0x97], 2, Xchg, Xchg90, W16, false, 0, (register 7), 0, 0), // xchg di,ax
+    case!([0x49, 0x91], 2, Xchg, Xchg91, W64, false, 0, (register 9), 0, 0), // xchg r9,rax
+    case!([0x66, 0x97], 2, Xchg, Xchg91, W16, false, 0, (register 7), 0, 0), // xchg di,ax
     case!([0x41, 0x6a, 0x80], 3, Push, Push6A, W64, false, 0, (none), 0xffff_ffff_ffff_ff80, 0), // rex.B push 0xffffffffffffff80
     case!([0x4c, 0x63, 0xff], 3, Movsxd, Movsxd63, W64, false, 15, (register 7), 0, 0), // movsxd r15,edi
     case!([0x66, 0x65, 0x48, 0x63, 0x0c, 0x24], 6, Movsxd, Movsxd63, W64, false, 1, (memory 4 _ 1 0 5), 0, 0), // movsxd rcx,DWORD PTR gs:[rsp]

@@ -2,6 +2,7 @@ pub mod BusLemmas
 pub mod EndLemmas
 pub mod PutLemmas
 pub mod RflagsLemmas
+pub mod RowTableLemmas
 pub mod UserRowLemmas
 pub mod WalkLemmas
 pub mod WindowLemmas
