@@ -3,8 +3,7 @@ ghost use Rattle.std.specs.Prelude.{◌≡◌, ◌^◌, ◌<◌};
 ghost use Rattle.svm_model.specs.Widths.{bits};
 ghost use Rattle.svm_model.specs.Sources.{is_reversed, has_immediate, destination, source_operand, destination_value, source_value};
 
-use crate::operands::{operand_value, register_named};
-use crate::register_file::cut;
+use register_file::{cut, operand_value, register_named};
 use row_table::{has_immediate, is_reversed};
 use svm_model::{Operand, Registers, Row};
 

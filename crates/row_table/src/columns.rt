@@ -9,7 +9,8 @@ ghost use Rattle.svm_model.specs.ShiftRows.{counts_by_cl};
 ghost use Rattle.svm_model.specs.Sources.{is_reversed, has_immediate, names_dx, rm_code, width_by, operand_width};
 ghost use Rattle.svm_model.specs.UserRows.{is_user_row};
 
-use svm_model::{Form, LockUse, Op, OperandCode, OperandCodes, Row, RowLine, TABLE, Width};
+use crate::table::lines;
+use svm_model::{Form, LockUse, Op, OperandCode, OperandCodes, Row, RowLine, Width};
 
 /// The number of a form, which is that of its line.
 #[tactic(auto, unfolding(svm_model::specs::RowNumbers::form_number))]
@@ -21,13 +22,12 @@ fn number(form: Form) -> usize
 }
 
 /// The line of this number.
-#[tactic(auto, unfolding(svm_model::specs::RowTable::line_at, svm_model::specs::RowTable::table))]
+#[tactic(auto, unfolding(svm_model::specs::RowTable::line_at))]
 fn line_at(number: usize) -> RowLine
     requires { number < 137 }
     ensures { result ≡ line_at number }
 {
-    let lines: &'static [RowLine] = &TABLE;
-    lines[number]
+    lines()[number]
 }
 
 /// The line of a form.

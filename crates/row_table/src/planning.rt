@@ -4,11 +4,11 @@ ghost use Rattle.std.specs.List.{All};
 ghost use Rattle.svm_model.specs.Branches.{popped};
 ghost use Rattle.svm_model.specs.Operands.{state};
 ghost use Rattle.svm_model.specs.Sources.{is_reversed, operand_width};
-ghost use Rattle.svm_model.specs.Planning.{IsQuadAtMost, touch_of, operand_touch, operand_bytes, loads_table, memory_accesses, operand_accesses, push_access, pop_access, stack_access, planned};
+ghost use Rattle.svm_model.specs.Planning.{IsQuadAtMost, touch_of, operand_touch, operand_bytes, is_lgdt_or_lidt, memory_accesses, operand_accesses, push_access, pop_access, stack_access, planned};
 
-use crate::addresses::{RBP, RSP, is_memory, is_on_stack, linear_address, whole_register};
 use crate::columns::{is_reversed, operand_width};
 use arrayvec::ArrayVec;
+use register_file::{RBP, RSP, is_memory, is_on_stack, linear_address, whole_register};
 use svm_model::{Op, PlannedAccess, Registers, Row, Touch, Width};
 
 /// What an instruction does to its memory operand, in the manual's order.
@@ -65,9 +65,9 @@ fn operand_bytes(row: &Row) -> u8
 }
 
 /// Whether the row loads the register of a descriptor table.
-#[tactic(auto, unfolding(svm_model::specs::Planning::loads_table))]
-fn loads_table(op: Op) -> bool
-    ensures { result ≡ loads_table op }
+#[tactic(auto, unfolding(svm_model::specs::Planning::is_lgdt_or_lidt))]
+fn is_lgdt_or_lidt(op: Op) -> bool
+    ensures { result ≡ is_lgdt_or_lidt op }
 {
     matches!(op, Op::Lgdt | Op::Lidt)
 }
@@ -80,7 +80,7 @@ fn plan_memory(row: &Row, address: u64, stack: bool, accesses: &mut ArrayVec<Pla
     ensures few { length accesses.new.items ≤ length accesses.old.items + 2 }
     ensures value { accesses.new.items ≡ accesses.old.items ++ memory_accesses row.now address stack }
 {
-    if loads_table(row.op) {
+    if is_lgdt_or_lidt(row.op) {
         accesses.push(PlannedAccess {
             address,
             length: 2,

@@ -1,5 +1,5 @@
 // What a line of the table says of an opcode, and the look-ups in the table.
-ghost use Rattle.std.specs.Prelude.{◌≡◌, ◌<◌, ◌≤◌};
+ghost use Rattle.std.specs.Prelude.{◌≡◌, ◌<◌, ◌≤◌, length};
 ghost use Rattle.svm_model.specs.RowLines.{opens, takes_size, meets, is_allowed, has_modrm, is_control, is_shift_digit, takes_modrm, leads, starts, matches, leading_line, first_line, fitting_line};
 ghost use Rattle.svm_model.specs.RowTable.{table};
 
@@ -169,24 +169,30 @@ fn fitting_of(
     None
 }
 
-/// The first line of the table that is of the map, under these prefixes.
+/// The lines of the table.
 #[tactic(auto, unfolding(svm_model::specs::RowTable::table))]
+pub fn lines() -> &'static [RowLine]
+    ensures value { result.now ≡ table }
+    ensures count { length result.now ≡ 137 }
+{
+    &TABLE
+}
+
+/// The first line of the table that is of the map, under these prefixes.
 pub fn leading_line(prefixes: Prefixes, rex: Rex, map: OpcodeMap) -> Option<RowLine>
     ensures { result ≡ leading_line prefixes rex map table }
 {
-    leading_of(&TABLE, prefixes, rex, map)
+    leading_of(lines(), prefixes, rex, map)
 }
 
 /// The first line of the table with this opcode.
-#[tactic(auto, unfolding(svm_model::specs::RowTable::table))]
 pub fn first_line(prefixes: Prefixes, rex: Rex, map: OpcodeMap, opcode: u8) -> Option<RowLine>
     ensures { result ≡ first_line prefixes rex map opcode table }
 {
-    first_of(&TABLE, prefixes, rex, map, opcode)
+    first_of(lines(), prefixes, rex, map, opcode)
 }
 
 /// The first line of the table with this opcode and ModRM byte.
-#[tactic(auto, unfolding(svm_model::specs::RowTable::table))]
 pub fn fitting_line(
     prefixes: Prefixes,
     rex: Rex,
@@ -197,5 +203,5 @@ pub fn fitting_line(
     requires { rex.register ≤ 8 }
     ensures { result ≡ fitting_line prefixes rex map opcode modrm table }
 {
-    fitting_of(&TABLE, prefixes, rex, map, opcode, modrm)
+    fitting_of(lines(), prefixes, rex, map, opcode, modrm)
 }

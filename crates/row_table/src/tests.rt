@@ -166,6 +166,7 @@ const ROWS: [Case; 268] = [
     case!([0x48, 0xd1, 0x0c, 0x25, 0xf0, 0xff, 0xff, 0xff], 8, Ror, ShiftD1, W64, false, 0, (memory _ _ 1 0xffff_ffff_ffff_fff0 0), 1, 0), // ror QWORD PTR ds:0xfffffffffffffff0,1
     case!([0x64, 0xd1, 0x64, 0x4d, 0x7f], 5, Shl, ShiftD1, W32, false, 0, (memory 5 1 2 0x7f 4), 1, 0), // shl DWORD PTR fs:[rbp+rcx*2+0x7f],1
     case!([0xf0, 0x64, 0x47, 0xd1, 0x6c, 0x25, 0x00], 7, Shr, ShiftD1, W32, true, 0, (memory 13 12 1 0 4), 1, 0), // lock rex.RXB shr DWORD PTR fs:[r13+r12*1+0x0],1
+    case!([0xd1, 0x3c, 0xe4], 3, Sar, ShiftD1, W32, false, 0, (memory 4 _ 1 0 0), 1, 0), // sar DWORD PTR [rsp+riz*8],1
     case!([0x42, 0xd1, 0x3c, 0xa0], 4, Sar, ShiftD1, W32, false, 0, (memory 0 12 4 0 0), 1, 0), // sar DWORD PTR [rax+r12*4],1
     case!([0x65, 0x4d, 0xd2, 0x05, 0xfc, 0xff, 0xff, 0xff], 8, Rol, ShiftD2, W8, false, 0, (next 0xffff_ffff_ffff_fffc 5), 0, 0), // rex.WRB rol BYTE PTR gs:[rip+0xfffffffffffffffc],cl
     case!([0x41, 0xd2, 0x0c, 0x5d, 0x01, 0x02, 0x03, 0x04], 8, Ror, ShiftD2, W8, false, 0, (memory _ 3 2 0x403_0201 0), 0, 0), // ror BYTE PTR [rbx*2+0x4030201],cl

@@ -1,5 +1,7 @@
 pub mod BusLemmas
+pub mod CanonicalLemmas
 pub mod EndLemmas
+pub mod LeadsLemmas
 pub mod PutLemmas
 pub mod RflagsLemmas
 pub mod RowTableLemmas
