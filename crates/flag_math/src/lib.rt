@@ -23,6 +23,7 @@ pub use rflags::{flags_in, with_flags};
 pub use shifts::shift;
 pub use sums::{add, sub};
 pub use svm_model::{Flags, LogicKind, NoQuotient, ShiftKind, Width};
+pub use width::is_negative;
 
 #[cfg(test)]
 mod tests;

@@ -9,11 +9,7 @@ use crate::refusal::{ImageRefusal, refused_at};
 use crate::source::Source;
 use byteorder::{ByteOrder, LittleEndian};
 use svm_model::ImageReason;
-
-// The end of the canonical addresses whose bits 63:47 are 0, and the start of those where they are 1.
-const LOW_END: u64 = 0x0000_8000_0000_0000;
-
-const HIGH_START: u64 = 0xffff_8000_0000_0000;
+use vm_names::is_canonical;
 
 // CF, bit 1, PF, AF, ZF, SF, IF, DF, OF, IOPL, NT and ID.
 const FLAGS_OFFERED: u64 = 0x0020_7ed7;
@@ -165,7 +161,7 @@ pub fn linear_in(source: Source) -> Result<(u64, Source), ImageRefusal>
     ensures { Gives (λ x. (x.0, left x.1)) result (linear_in (left source.entry)) }
 {
     let (address, rest) = u64_in(source)?;
-    if !(address < LOW_END || HIGH_START <= address) {
+    if !is_canonical(address) {
         return Err(refused_at(source, ImageReason::Register));
     }
     Ok((address, rest))

@@ -1,9 +1,9 @@
 // What applying a row does.
 ghost use Rattle.std.specs.Prelude.{◌≡◌, IsTrue};
 ghost use Rattle.svm_model.specs.Operands.{state};
-ghost use Rattle.svm_model.specs.Locking.{takes_lock, lock_is_undefined};
+ghost use Rattle.svm_model.specs.Locking.{lock_is_undefined};
 ghost use Rattle.svm_model.specs.UserRows.{is_user_row};
-ghost use Rattle.svm_model.specs.Apply.{done_op, applied_op, applied, answer_of, state_after, others_of};
+ghost use Rattle.svm_model.specs.Apply.{done_op, applied_op, applied, answer_of, state_after, others_of, MovesOn};
 
 use crate::arithmetic::{
     apply_comparison, apply_decrement, apply_difference, apply_increment, apply_logic,
@@ -19,49 +19,16 @@ use crate::branches::{
 };
 use crate::flag_rows::{apply_carry, apply_complemented_carry, apply_direction, apply_nothing};
 use crate::moves::{
-    apply_accumulator_extension, apply_conditional_move, apply_conditional_set, apply_load_address,
-    apply_move, apply_sign_extension, apply_sign_spread, apply_zero_extension,
+    apply_cbw, apply_cmovcc, apply_cwd, apply_lea, apply_move, apply_movsx, apply_movzx,
+    apply_setcc,
 };
 use crate::multiply_rows::{apply_division, apply_multiplication, apply_signed_multiplication};
-use crate::operands::is_memory;
-use crate::register_file::read_flags;
 use crate::shift_rows::apply_shift;
 use crate::sources::destination;
-use svm_model::{Applied, Cause, LogicKind, Op, Registers, Row, ShiftKind, Trap};
-
-const INVALID_OPCODE: Trap = Trap {
-    vector: 6,
-    code: None,
-    address: None,
-    cause: Cause::Fault,
-};
-
-/// Whether the instruction may have a LOCK prefix, where it writes memory.
-#[tactic(auto, unfolding(svm_model::specs::Locking::takes_lock))]
-fn takes_lock(op: Op) -> bool
-    ensures { result ≡ takes_lock op }
-{
-    matches!(
-        op,
-        Op::Add
-            | Op::Or
-            | Op::Adc
-            | Op::Sbb
-            | Op::And
-            | Op::Sub
-            | Op::Xor
-            | Op::Not
-            | Op::Neg
-            | Op::Inc
-            | Op::Dec
-            | Op::Xchg
-            | Op::Cmpxchg
-            | Op::Xadd
-            | Op::Bts
-            | Op::Btr
-            | Op::Btc
-    )
-}
+use register_file::{is_memory, read_flags};
+use row_table::takes_lock;
+use svm_model::{Applied, LogicKind, Op, Registers, Row, ShiftKind};
+use vm_names::INVALID_OPCODE;
 
 /// Whether the row has a LOCK prefix where none may stand, which is #UD: its instruction takes none, or its destination
 /// is a register (volume 3, 'Lock Prefix'). Rows other than user rows take none.
@@ -69,45 +36,7 @@ fn takes_lock(op: Op) -> bool
 pub fn lock_is_undefined(row: &Row) -> bool
     ensures { result ≡ lock_is_undefined row.now }
 {
-    row.lock && !(takes_lock(row.op) && is_memory(destination(row)))
-}
-
-/// Whether the row is one that `apply` is for: all but those that need what is beyond the general registers and memory,
-/// such as a port, an event or a change of privilege or of paging.
-#[tactic(auto, unfolding(svm_model::specs::UserRows::is_user_row))]
-pub fn is_user_row(op: Op) -> bool
-    ensures { result ≡ is_user_row op }
-{
-    match op {
-        // flags and events
-        Op::Pause
-        | Op::Hlt
-        | Op::Ud2
-        | Op::Cli
-        | Op::Sti
-        | Op::Pushfq
-        | Op::Popfq
-        | Op::Int3
-        | Op::Int
-        | Op::Iretq => false,
-        // ports and system registers
-        Op::In
-        | Op::Out
-        | Op::MovCr
-        | Op::MovDr
-        | Op::Rdmsr
-        | Op::Wrmsr
-        | Op::Cpuid
-        | Op::Rdtsc
-        | Op::Lgdt
-        | Op::Lidt
-        | Op::Invlpg
-        | Op::Swapgs => false,
-        // virtual machines
-        Op::Vmrun | Op::Vmmcall | Op::Vmload | Op::Vmsave | Op::Stgi | Op::Clgi | Op::Invlpga =>
-            false,
-        _ => true,
-    }
+    row.lock && !(takes_lock(row) && is_memory(destination(row)))
 }
 
 /// Applies a row that never faults.
@@ -125,22 +54,22 @@ fn apply_done(row: &Row, registers: &mut Registers, next_rip: u64, values: &[u64
         Op::Btc => apply_bit_change(Op::Btc, row, registers, next_rip, values, results),
         Op::Btr => apply_bit_change(Op::Btr, row, registers, next_rip, values, results),
         Op::Bts => apply_bit_change(Op::Bts, row, registers, next_rip, values, results),
-        Op::Cbw => apply_accumulator_extension(row, registers, next_rip, values, results),
-        Op::Cwd => apply_sign_spread(row, registers, next_rip, values, results),
+        Op::Cbw => apply_cbw(row, registers, next_rip, values, results),
+        Op::Cwd => apply_cwd(row, registers, next_rip, values, results),
         Op::Clc => apply_carry(false, registers, next_rip),
         Op::Cld => apply_direction(false, registers, next_rip),
         Op::Cmc => apply_complemented_carry(registers, next_rip),
-        Op::Cmovcc => apply_conditional_move(row, registers, next_rip, values, results),
+        Op::Cmovcc => apply_cmovcc(row, registers, next_rip, values, results),
         Op::Cmp => apply_comparison(row, registers, next_rip, values, results),
         Op::Cmpxchg => apply_compare_and_exchange(row, registers, next_rip, values, results),
         Op::Dec => apply_decrement(row, registers, next_rip, values, results),
         Op::Imul => apply_signed_multiplication(row, registers, next_rip, values, results),
         Op::Inc => apply_increment(row, registers, next_rip, values, results),
-        Op::Lea => apply_load_address(row, registers, next_rip, results),
+        Op::Lea => apply_lea(row, registers, next_rip, results),
         Op::Leave => apply_leave(registers, next_rip, values, results),
         Op::Mov => apply_move(row, registers, next_rip, values, results),
-        Op::Movsx | Op::Movsxd => apply_sign_extension(row, registers, next_rip, values, results),
-        Op::Movzx => apply_zero_extension(row, registers, next_rip, values, results),
+        Op::Movsx | Op::Movsxd => apply_movsx(row, registers, next_rip, values, results),
+        Op::Movzx => apply_movzx(row, registers, next_rip, values, results),
         Op::Mul => apply_multiplication(false, row, registers, next_rip, values, results),
         Op::Neg => apply_negation(row, registers, next_rip, values, results),
         Op::Nop | Op::Lfence | Op::Mfence | Op::Sfence => apply_nothing(registers, next_rip),
@@ -153,7 +82,7 @@ fn apply_done(row: &Row, registers: &mut Registers, next_rip: u64, values: &[u64
         Op::Shl => apply_shift(ShiftKind::Shl, row, registers, next_rip, values, results),
         Op::Sar => apply_shift(ShiftKind::Sar, row, registers, next_rip, values, results),
         Op::Sbb => apply_difference(carry, row, registers, next_rip, values, results),
-        Op::Setcc => apply_conditional_set(row, registers, next_rip, results),
+        Op::Setcc => apply_setcc(row, registers, next_rip, results),
         Op::Shr => apply_shift(ShiftKind::Shr, row, registers, next_rip, values, results),
         Op::Stc => apply_carry(true, registers, next_rip),
         Op::Std => apply_direction(true, registers, next_rip),
@@ -226,6 +155,8 @@ pub fn apply(
     // A fault changes nothing, and a row nothing but general registers, RIP and RFLAGS.
     ensures unchanged { (trap : _) → result ≡ Applied.Fault trap → state registers.new results.new ≡ state registers.old results.old }
     ensures others { others_of registers.new ≡ others_of registers.old }
+    // A row that is done leads on: to the next row, or to its branch's target.
+    ensures moves_on { result ≡ Applied.Done → MovesOn row.now next_rip values.now registers.old registers.new }
 {
     apply_row(row, registers, next_rip, values, results)
 }

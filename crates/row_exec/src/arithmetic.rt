@@ -1,13 +1,12 @@
 // Rows of arithmetic and logic.
 ghost use Rattle.std.specs.Prelude.{◌≡◌};
 ghost use Rattle.svm_model.specs.Operands.{state};
-ghost use Rattle.svm_model.specs.Arithmetic.{adds, subtracts, compares, combines, tests_bits, turns_bits, negates, increments, decrements};
+ghost use Rattle.svm_model.specs.Arithmetic.{adds, subtracts, compares, combines, tests_bits, not_inverts, negates, increments, decrements};
 
-use crate::operands::{operand_value, write_operand};
-use crate::register_file::{read_flags, write_flags, write_rip};
 use crate::sources::{destination, destination_value, source_value};
 use crate::widths::ones;
 use flag_math::{add, logic, sub};
+use register_file::{operand_value, read_flags, write_flags, write_operand, write_rip};
 use svm_model::{Flags, LogicKind, Registers, Row};
 
 /// ADD, and ADC with CF as the carry.
@@ -109,7 +108,7 @@ pub fn apply_test(
 }
 
 /// NOT.
-#[tactic(auto, unfolding(svm_model::specs::Arithmetic::turns_bits))]
+#[tactic(auto, unfolding(svm_model::specs::Arithmetic::not_inverts))]
 pub fn apply_not(
     row: &Row,
     registers: &mut Registers,
@@ -117,7 +116,7 @@ pub fn apply_not(
     values: &[u64; 8],
     results: &mut [u64; 8],
 )
-    ensures { state registers.new results.new ≡ turns_bits row.now next_rip values.now (state registers.old results.old) }
+    ensures { state registers.new results.new ≡ not_inverts row.now next_rip values.now (state registers.old results.old) }
 {
     let value = operand_value(row.width, row.operand, registers, values);
     let turned = ones(row.width) - value;

@@ -1,13 +1,15 @@
 // Rows that test bits, and rows that exchange.
 ghost use Rattle.std.specs.Prelude.{◌≡◌};
 ghost use Rattle.svm_model.specs.Operands.{state};
-ghost use Rattle.svm_model.specs.BitRows.{selected_bit, changed_bit, written_back, copies_bit, changes_bit, exchanges, exchanges_and_adds, compares_and_exchanges};
+ghost use Rattle.svm_model.specs.BitRows.{selected_bit, changed_bit, written_back, bt_copies_bit, changes_bit, exchanges, exchanges_and_adds, compares_and_exchanges};
 
-use crate::operands::{ACCUMULATOR, is_memory, operand_value, register_named, write_operand};
-use crate::register_file::{write_carry, write_flags, write_rip};
 use crate::sources::source_value;
 use crate::widths::bit_count;
 use flag_math::{add, sub};
+use register_file::{
+    ACCUMULATOR, is_memory, operand_value, register_named, write_carry, write_flags, write_operand,
+    write_rip,
+};
 use svm_model::{Op, Registers, Row};
 
 /// The bit that a row names, by its place.
@@ -19,7 +21,7 @@ fn selected_bit(row: &Row, registers: &Registers, values: &[u64; 8]) -> u64
 }
 
 /// BT.
-#[tactic(auto, unfolding(svm_model::specs::BitRows::copies_bit))]
+#[tactic(auto, unfolding(svm_model::specs::BitRows::bt_copies_bit))]
 pub fn apply_bit_test(
     row: &Row,
     registers: &mut Registers,
@@ -27,7 +29,7 @@ pub fn apply_bit_test(
     values: &[u64; 8],
     results: &mut [u64; 8],
 )
-    ensures { state registers.new results.new ≡ copies_bit row.now next_rip values.now (state registers.old results.old) }
+    ensures { state registers.new results.new ≡ bt_copies_bit row.now next_rip values.now (state registers.old results.old) }
 {
     let value = operand_value(row.width, row.operand, registers, values);
     let bit = selected_bit(row, registers, values);

@@ -1,25 +1,16 @@
 // Rows of the stack and branches.
 ghost use Rattle.std.specs.Prelude.{◌≡◌, ◌<◌, ◌≤◌, []};
-ghost use Rattle.svm_model.specs.RegisterFile.{is_canonical};
 ghost use Rattle.svm_model.specs.Operands.{state};
 ghost use Rattle.svm_model.specs.Apply.{answer_of, state_after};
 ghost use Rattle.svm_model.specs.Branches.{with_rsp, pushed, popped, stack_place, operand_or, pushes, pops, leaves, branched, target_of, jumps, jumps_where, calls, returns};
 
 use crate::conditions::condition_holds;
-use crate::operands::{is_memory, operand_value, write_operand_at};
-use crate::register_file::{read_flags, whole_register, write_register, write_rip};
-use svm_model::{Applied, Cause, Operand, Registers, Row, Trap, Width};
-
-const RSP: u8 = 4;
-
-const RBP: u8 = 5;
-
-const GENERAL_PROTECTION: Trap = Trap {
-    vector: 13,
-    code: Some(0),
-    address: None,
-    cause: Cause::Fault,
+use register_file::{
+    RBP, RSP, is_memory, operand_value, read_flags, whole_register, write_operand_at,
+    write_register, write_rip,
 };
+use svm_model::{Applied, Operand, Registers, Row, Width};
+use vm_names::{GENERAL_PROTECTION, is_canonical};
 
 fn write_rsp(registers: &mut Registers, value: u64)
     ensures { registers.new ≡ (with_rsp value (state registers.old [])).registers }
@@ -111,12 +102,6 @@ pub fn apply_leave(
     pop(0, registers);
     write_register(registers, Width::W64, RBP, false, values[0]);
     write_rip(registers, next_rip);
-}
-
-fn is_canonical(address: u64) -> bool
-    ensures { result ≡ is_canonical address }
-{
-    address < 1 << 47 || address >= u64::MAX << 47
 }
 
 /// Branches, where the address is canonical.

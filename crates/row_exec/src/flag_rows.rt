@@ -3,7 +3,7 @@ ghost use Rattle.std.specs.Prelude.{◌≡◌, []};
 ghost use Rattle.svm_model.specs.Operands.{state};
 ghost use Rattle.svm_model.specs.FlagRows.{sets_carry, complements_carry, sets_direction, does_nothing};
 
-use crate::register_file::{read_flags, write_carry, write_direction, write_rip};
+use register_file::{read_flags, write_carry, write_direction, write_rip};
 use svm_model::Registers;
 
 /// STC and CLC.

@@ -2,16 +2,18 @@
 ghost use Rattle.std.specs.Prelude.{◌≡◌, ◌^◌, ◌<◌};
 ghost use Rattle.svm_model.specs.Widths.{bits};
 ghost use Rattle.svm_model.specs.Operands.{state};
-ghost use Rattle.svm_model.specs.Moves.{moves, source_width, moves_extended_by_zeros, extended_by_sign, moves_extended_by_sign, loads_address, moves_where, sets_where, half_of, extends_accumulator, spreads_sign};
+ghost use Rattle.svm_model.specs.Moves.{moves, movzx_extends, extended_by_sign, movsx_extends, lea_loads, cmovcc_moves, setcc_sets, half_of, cbw_extends, cwd_spreads_sign};
 
 use crate::conditions::condition_holds;
-use crate::operands::{
-    ACCUMULATOR, RDX, effective_address, operand_value, register_named, write_operand,
-};
-use crate::register_file::{read_flags, write_rip};
 use crate::sources::{destination, source_value};
-use crate::widths::{is_negative, ones};
-use svm_model::{Form, Registers, Row, Width};
+use crate::widths::ones;
+use flag_math::is_negative;
+use register_file::{
+    ACCUMULATOR, RDX, effective_address, operand_value, read_flags, register_named, write_operand,
+    write_rip,
+};
+use row_table::operand_width;
+use svm_model::{Registers, Row, Width};
 
 /// MOV.
 #[tactic(auto, unfolding(svm_model::specs::Moves::moves))]
@@ -29,30 +31,18 @@ pub fn apply_move(
     write_rip(registers, next_rip);
 }
 
-/// The width of the source of MOVZX, MOVSX and MOVSXD.
-#[tactic(auto, unfolding(svm_model::specs::Moves::source_width))]
-fn source_width(form: Form) -> Width
-    ensures { result ≡ source_width form }
-{
-    match form {
-        Form::Movzx0FB6 | Form::Movsx0FBE => Width::W8,
-        Form::Movsxd63 => Width::W32,
-        _ => Width::W16,
-    }
-}
-
 /// MOVZX.
-#[tactic(auto, unfolding(svm_model::specs::Moves::moves_extended_by_zeros))]
-pub fn apply_zero_extension(
+#[tactic(auto, unfolding(svm_model::specs::Moves::movzx_extends))]
+pub fn apply_movzx(
     row: &Row,
     registers: &mut Registers,
     next_rip: u64,
     values: &[u64; 8],
     results: &mut [u64; 8],
 )
-    ensures { state registers.new results.new ≡ moves_extended_by_zeros row.now next_rip values.now (state registers.old results.old) }
+    ensures { state registers.new results.new ≡ movzx_extends row.now next_rip values.now (state registers.old results.old) }
 {
-    let value = operand_value(source_width(row.form), row.operand, registers, values);
+    let value = operand_value(operand_width(row), row.operand, registers, values);
     write_operand(
         row.width,
         register_named(row.register),
@@ -78,17 +68,17 @@ fn extended_by_sign(width: Width, value: u64) -> u64
 }
 
 /// MOVSX and MOVSXD.
-#[tactic(auto, unfolding(svm_model::specs::Moves::moves_extended_by_sign))]
-pub fn apply_sign_extension(
+#[tactic(auto, unfolding(svm_model::specs::Moves::movsx_extends))]
+pub fn apply_movsx(
     row: &Row,
     registers: &mut Registers,
     next_rip: u64,
     values: &[u64; 8],
     results: &mut [u64; 8],
 )
-    ensures { state registers.new results.new ≡ moves_extended_by_sign row.now next_rip values.now (state registers.old results.old) }
+    ensures { state registers.new results.new ≡ movsx_extends row.now next_rip values.now (state registers.old results.old) }
 {
-    let from = source_width(row.form);
+    let from = operand_width(row);
     let value = extended_by_sign(from, operand_value(from, row.operand, registers, values));
     write_operand(
         row.width,
@@ -101,14 +91,9 @@ pub fn apply_sign_extension(
 }
 
 /// LEA.
-#[tactic(auto, unfolding(svm_model::specs::Moves::loads_address))]
-pub fn apply_load_address(
-    row: &Row,
-    registers: &mut Registers,
-    next_rip: u64,
-    results: &mut [u64; 8],
-)
-    ensures { state registers.new results.new ≡ loads_address row.now next_rip (state registers.old results.old) }
+#[tactic(auto, unfolding(svm_model::specs::Moves::lea_loads))]
+pub fn apply_lea(row: &Row, registers: &mut Registers, next_rip: u64, results: &mut [u64; 8])
+    ensures { state registers.new results.new ≡ lea_loads row.now next_rip (state registers.old results.old) }
 {
     let address = effective_address(row.operand, next_rip, registers);
     write_operand(
@@ -122,15 +107,15 @@ pub fn apply_load_address(
 }
 
 /// CMOVcc.
-#[tactic(auto, unfolding(svm_model::specs::Moves::moves_where))]
-pub fn apply_conditional_move(
+#[tactic(auto, unfolding(svm_model::specs::Moves::cmovcc_moves))]
+pub fn apply_cmovcc(
     row: &Row,
     registers: &mut Registers,
     next_rip: u64,
     values: &[u64; 8],
     results: &mut [u64; 8],
 )
-    ensures { state registers.new results.new ≡ moves_where row.now next_rip values.now (state registers.old results.old) }
+    ensures { state registers.new results.new ≡ cmovcc_moves row.now next_rip values.now (state registers.old results.old) }
 {
     let target = register_named(row.register);
     let source = operand_value(row.width, row.operand, registers, values);
@@ -145,14 +130,9 @@ pub fn apply_conditional_move(
 }
 
 /// SETcc.
-#[tactic(auto, unfolding(svm_model::specs::Moves::sets_where))]
-pub fn apply_conditional_set(
-    row: &Row,
-    registers: &mut Registers,
-    next_rip: u64,
-    results: &mut [u64; 8],
-)
-    ensures { state registers.new results.new ≡ sets_where row.now next_rip (state registers.old results.old) }
+#[tactic(auto, unfolding(svm_model::specs::Moves::setcc_sets))]
+pub fn apply_setcc(row: &Row, registers: &mut Registers, next_rip: u64, results: &mut [u64; 8])
+    ensures { state registers.new results.new ≡ setcc_sets row.now next_rip (state registers.old results.old) }
 {
     let holds = condition_holds(row.condition, read_flags(registers));
     write_operand(Width::W8, row.operand, u64::from(holds), registers, results);
@@ -170,15 +150,15 @@ fn half_of(width: Width) -> Width
 }
 
 /// CBW, CWDE and CDQE.
-#[tactic(auto, unfolding(svm_model::specs::Moves::extends_accumulator))]
-pub fn apply_accumulator_extension(
+#[tactic(auto, unfolding(svm_model::specs::Moves::cbw_extends))]
+pub fn apply_cbw(
     row: &Row,
     registers: &mut Registers,
     next_rip: u64,
     values: &[u64; 8],
     results: &mut [u64; 8],
 )
-    ensures { state registers.new results.new ≡ extends_accumulator row.now next_rip values.now (state registers.old results.old) }
+    ensures { state registers.new results.new ≡ cbw_extends row.now next_rip values.now (state registers.old results.old) }
 {
     let half = half_of(row.width);
     let value = extended_by_sign(half, operand_value(half, ACCUMULATOR, registers, values));
@@ -187,15 +167,15 @@ pub fn apply_accumulator_extension(
 }
 
 /// CWD, CDQ and CQO.
-#[tactic(auto, unfolding(svm_model::specs::Moves::spreads_sign))]
-pub fn apply_sign_spread(
+#[tactic(auto, unfolding(svm_model::specs::Moves::cwd_spreads_sign))]
+pub fn apply_cwd(
     row: &Row,
     registers: &mut Registers,
     next_rip: u64,
     values: &[u64; 8],
     results: &mut [u64; 8],
 )
-    ensures { state registers.new results.new ≡ spreads_sign row.now next_rip values.now (state registers.old results.old) }
+    ensures { state registers.new results.new ≡ cwd_spreads_sign row.now next_rip values.now (state registers.old results.old) }
 {
     let low = operand_value(row.width, ACCUMULATOR, registers, values);
     let copies = if is_negative(row.width, low) {

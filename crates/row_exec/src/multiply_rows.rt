@@ -5,20 +5,14 @@ ghost use Rattle.svm_model.specs.Operands.{state};
 ghost use Rattle.svm_model.specs.Apply.{answer_of, state_after};
 ghost use Rattle.svm_model.specs.MultiplyRows.{with_accumulators, multiplies, factor_of, multiplies_into_register, has_one_operand, multiplies_signed, divides};
 
-use crate::operands::{
-    ACCUMULATOR, operand_value, register_named, upper_accumulator, write_operand,
-};
-use crate::register_file::{cut, read_flags, write_flags, write_rip};
-use crate::sources::has_immediate;
 use flag_math::{divide, multiply};
-use svm_model::{Applied, Cause, Form, Registers, Row, Trap, Width};
-
-const DIVIDE_ERROR: Trap = Trap {
-    vector: 0,
-    code: None,
-    address: None,
-    cause: Cause::Fault,
+use register_file::{
+    ACCUMULATOR, cut, operand_value, read_flags, register_named, upper_accumulator, write_flags,
+    write_operand, write_rip,
 };
+use row_table::{has_immediate, has_one_operand};
+use svm_model::{Applied, Registers, Row, Width};
+use vm_names::DIVIDE_ERROR;
 
 /// Writes the accumulator and what goes with it: AX, DX:AX, EDX:EAX or RDX:RAX.
 fn write_accumulators(
@@ -92,14 +86,6 @@ fn apply_multiplication_into_register(
     );
     write_flags(registers, flags);
     write_rip(registers, next_rip);
-}
-
-/// Whether IMUL has one operand.
-#[tactic(auto, unfolding(svm_model::specs::MultiplyRows::has_one_operand))]
-fn has_one_operand(form: Form) -> bool
-    ensures { result ≡ has_one_operand form }
-{
-    matches!(form, Form::ImulF6 | Form::ImulF7)
 }
 
 /// IMUL.

@@ -3,20 +3,12 @@ ghost use Rattle.std.specs.Prelude.{◌≡◌};
 ghost use Rattle.svm_model.specs.Operands.{state};
 ghost use Rattle.svm_model.specs.ShiftRows.{counts_by_cl, count_of, shifts};
 
-use crate::operands::{operand_value, write_operand};
-use crate::register_file::{cut, read_flags, register_value, write_flags, write_rip};
 use flag_math::shift;
-use svm_model::{Form, Registers, Row, ShiftKind, Width};
-
-const RCX: u8 = 1;
-
-/// Whether the count stands in CL.
-#[tactic(auto, unfolding(svm_model::specs::ShiftRows::counts_by_cl))]
-fn counts_by_cl(form: Form) -> bool
-    ensures { result ≡ counts_by_cl form }
-{
-    matches!(form, Form::ShiftD2 | Form::ShiftD3)
-}
+use register_file::{
+    RCX, cut, operand_value, read_flags, register_value, write_flags, write_operand, write_rip,
+};
+use row_table::counts_by_cl;
+use svm_model::{Registers, Row, ShiftKind, Width};
 
 fn count_of(row: &Row, registers: &Registers) -> u8
     ensures { result ≡ count_of row.now registers.now }

@@ -3,49 +3,9 @@ ghost use Rattle.std.specs.Prelude.{◌≡◌, ◌^◌, ◌<◌};
 ghost use Rattle.svm_model.specs.Widths.{bits};
 ghost use Rattle.svm_model.specs.Sources.{is_reversed, has_immediate, destination, source_operand, destination_value, source_value};
 
-use crate::operands::{operand_value, register_named};
-use crate::register_file::cut;
-use svm_model::{Form, Operand, Registers, Row};
-
-/// Whether the reg field names the destination, and r/m the source.
-#[tactic(auto, unfolding(svm_model::specs::Sources::is_reversed))]
-fn is_reversed(form: Form) -> bool
-    ensures { result ≡ is_reversed form }
-{
-    matches!(
-        form,
-        Form::Arithmetic02 | Form::Arithmetic03 | Form::Mov8A | Form::Mov8B
-    )
-}
-
-/// Whether the source is an immediate.
-#[tactic(auto, unfolding(svm_model::specs::Sources::has_immediate))]
-pub fn has_immediate(form: Form) -> bool
-    ensures { result ≡ has_immediate form }
-{
-    matches!(
-        form,
-        Form::Arithmetic04
-            | Form::Arithmetic05
-            | Form::Arithmetic80
-            | Form::Arithmetic81
-            | Form::Arithmetic83
-            | Form::TestA8
-            | Form::TestA9
-            | Form::TestF6
-            | Form::TestF7
-            | Form::Imul69
-            | Form::Imul6B
-            | Form::MovC6
-            | Form::MovC7
-            | Form::MovB0
-            | Form::MovB8
-            | Form::Bt0FBA
-            | Form::Bts0FBA
-            | Form::Btr0FBA
-            | Form::Btc0FBA
-    )
-}
+use register_file::{cut, operand_value, register_named};
+use row_table::{has_immediate, is_reversed};
+use svm_model::{Operand, Registers, Row};
 
 pub fn destination(row: &Row) -> Operand
     ensures { result ≡ destination row.now }

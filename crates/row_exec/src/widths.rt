@@ -1,6 +1,6 @@
 // What a width says in numbers.
 ghost use Rattle.std.specs.Prelude.{◌≡◌, ◌-◌, ◌^◌};
-ghost use Rattle.svm_model.specs.Widths.{bits, top_bit};
+ghost use Rattle.svm_model.specs.Widths.{bits};
 
 use svm_model::Width;
 
@@ -14,13 +14,6 @@ pub fn ones(width: Width) -> u64
         Width::W32 => 0xffff_ffff,
         Width::W64 => u64::MAX,
     }
-}
-
-/// Whether the highest bit of the operand is set.
-pub fn is_negative(width: Width, value: u64) -> bool
-    ensures { result ≡ top_bit width value }
-{
-    value > ones(width) / 2
 }
 
 /// The number of bits.

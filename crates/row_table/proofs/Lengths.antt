@@ -10,11 +10,12 @@ use Rattle.row_table.proofs.Single.{pure}
 use Rattle.row_table.proofs.Splits.{bind_ok, same_ok, prefix_split, rex_split, opened_split}
 use Rattle.row_table.proofs.Whole.{room, room-falls}
 use Rattle.svm_model.specs.Decoding.{opened_at, body_at, form_at}
-use Rattle.svm_model.specs.RowParts.{cut, full_at, whole_at, immediate_at, is_of_byte, operand_by, operand_field_at, width_of, row_of}
+use Rattle.svm_model.specs.Operands.{cut}
+use Rattle.svm_model.specs.RowParts.{full_at, whole_at, immediate_at, is_of_byte, operand_by, operand_field_at, width_of, row_of}
 use Rattle.svm_model.specs.InstructionBytes.{◌>>=◌, byte_at, word_at, double_at, quad_at}
 use Rattle.svm_model.specs.ModRm.{extended_8, extended_32, displacement_at, displacement_size, base_of, index_of, scale_of, is_baseless, mode_of, rm_of, register_operand, sib_at, operand_at}
 use Rattle.svm_model.specs.Prefixes.{no_prefix, prefixes_of, rex_and_rest}
-use Rattle.svm_model.specs.RowLines.{has_modrm, fits}
+use Rattle.svm_model.specs.RowLines.{has_modrm, takes_modrm}
 use Rattle.svm_model.specs.RowTable.{table}
 use Rattle.svm_model.specs.Spelling.{ArePrefixes, IsRex, opcode_bytes, IsModrm, IsLineOf}
 use Rattle.svm_model.specs.declared.row_lines.Displacement.{Displacement}
@@ -85,7 +86,7 @@ IsShort-sib : (segment : ℕ) (rex : Rex) (mode : ℕ) → IsShort 5 (sib_at seg
 unfolding sib_at
 IsShort-sib segment rex mode =
     IsShort-then 1 4 byte_at _ IsShort-byte (λ sib.
-    IsShort-mapped 4 (λ d. operand.Memory (base_of rex mode (sib % 8)) (index_of rex sib) (scale_of sib) d false segment) (displacement_at (displacement_size mode (sib % 8))) (IsShort-displacement (displacement_size mode (sib % 8))))
+    IsShort-mapped 4 (λ d. operand.Memory (base_of rex mode (sib % 8)) (index_of rex sib) (scale_of (index_of rex sib) sib) d false segment) (displacement_at (displacement_size mode (sib % 8))) (IsShort-displacement (displacement_size mode (sib % 8))))
 
 IsShort-operand : (segment : ℕ) (rex : Rex) (small : Bool) (modrm : ℕ) → IsShort 5 (operand_at segment rex small modrm)
 unfolding operand_at
@@ -115,6 +116,7 @@ IsShort-operand_by fields.Debug segment rex o = IsShort-le 0 5 (pure (register_o
 IsShort-operand_by (fields.Exact byte) segment rex o = IsShort-le 0 5 (pure operand.None) (lit≤ tt) (IsShort-pure operand.None)
 IsShort-operand_by fields.Any segment rex o = IsShort-operand segment rex (is_of_byte o.line.size) o.modrm
 IsShort-operand_by fields.AnyDigit segment rex o = IsShort-operand segment rex (is_of_byte o.line.size) o.modrm
+IsShort-operand_by fields.ShiftDigit segment rex o = IsShort-operand segment rex (is_of_byte o.line.size) o.modrm
 IsShort-operand_by fields.Direct segment rex o = IsShort-operand segment rex (is_of_byte o.line.size) o.modrm
 IsShort-operand_by fields.Memory segment rex o = IsShort-operand segment rex (is_of_byte o.line.size) o.modrm
 IsShort-operand_by (fields.Digit d) segment rex o = IsShort-operand segment rex (is_of_byte o.line.size) o.modrm
@@ -183,7 +185,7 @@ length-opcode map.Repeat b = refl
 
 length-modrm : (f : OperandFields) (r : Rex) (bytes : List ℕ) (modrm : ℕ) → IsModrm f r bytes modrm → length bytes ≡ modrm_length f
 length-modrm f r bytes modrm i = go (has_modrm f) i where
-  go : (t : Bool) → MatchBool t ((bytes ≡ modrm ∷ []) × (fits f r modrm ≡ true)) ((bytes ≡ []) × (modrm ≡ 0)) → length bytes ≡ cond t 1 0
+  go : (t : Bool) → MatchBool t ((bytes ≡ modrm ∷ []) × (takes_modrm f r modrm ≡ true)) ((bytes ≡ []) × (modrm ≡ 0)) → length bytes ≡ cond t 1 0
   go true i = ap length i.0
   go false i = ap length i.0
 

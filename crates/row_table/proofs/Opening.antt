@@ -10,7 +10,7 @@ use Rattle.svm_model.specs.Decoding.{listed, modrm_at, line_at, escape_of, escap
 use Rattle.svm_model.specs.RowParts.{opened}
 use Rattle.svm_model.specs.InstructionBytes.{◌>>=◌}
 use Rattle.svm_model.specs.ModRm.{reg_of}
-use Rattle.svm_model.specs.RowLines.{same_map, opens, has_modrm, is_control, leads, starts, matches, fits, first_where, leading_line, first_line, fitting_line}
+use Rattle.svm_model.specs.RowLines.{same_map, opens, has_modrm, is_control, leads, starts, matches, takes_modrm, first_where, leading_line, first_line, fitting_line}
 use Rattle.svm_model.specs.RowTable.{table}
 use Rattle.svm_model.specs.declared.row_lines.OperandFields.{OperandFields}
 use Rattle.svm_model.specs.declared.row_lines.OperandFields.TheVariants as fields
@@ -30,6 +30,7 @@ IsSteady r = (r.register ≡ 0) ⊎ (r.register ≡ 8)
 abbrev example : OperandFields → ℕ
 example fields.Any = 0xC0
 example fields.AnyDigit = 0xC0
+example fields.ShiftDigit = 0xC0
 example fields.Direct = 0xC0
 example fields.Memory = 0
 example (fields.Digit d) = 0xC0 + 8 * d
@@ -56,20 +57,21 @@ digit-example d h = omega arith
 memory-example : (d : ℕ) → d < 8 → 8 * d / 8 % 8 ≡ d
 memory-example d h = omega arith
 
-fits-example : (f : OperandFields) (r : Rex) → IsSteady r → has_modrm f ≡ true → has_bytes f ≡ true → fits f r (example f) ≡ true
-fits-example fields.Absent r g h s = absurd (cc)
-fits-example fields.Accumulator r g h s = absurd (cc)
-fits-example fields.Opcode r g h s = absurd (cc)
-fits-example fields.Any r g h s = refl
-fits-example fields.AnyDigit r g h s = refl
-fits-example fields.Direct r g h s = refl
-fits-example fields.Memory r g h s = refl
-fits-example (fields.Digit d) r g h s = eq-eqb _ d (digit-example d (ltb-true d 8 s))
-fits-example (fields.DigitMemory d) r g h s = let k = ltb-true d 8 s in and_from _ _ (eq-eqb _ d (memory-example d k)) (lt-ltb (8 * d) 0xC0 (omega arith))
-fits-example fields.Control r (inl e) h s = ap (λ (n : ℕ). is_control (reg_of 0xC0 + n)) e
-fits-example fields.Control r (inr e) h s = ap (λ (n : ℕ). is_control (reg_of 0xC0 + n)) e
-fits-example fields.Debug r g h s = refl
-fits-example (fields.Exact b) r g h s = eq-eqb b b refl
+takes_modrm-example : (f : OperandFields) (r : Rex) → IsSteady r → has_modrm f ≡ true → has_bytes f ≡ true → takes_modrm f r (example f) ≡ true
+takes_modrm-example fields.Absent r g h s = absurd (cc)
+takes_modrm-example fields.Accumulator r g h s = absurd (cc)
+takes_modrm-example fields.Opcode r g h s = absurd (cc)
+takes_modrm-example fields.Any r g h s = refl
+takes_modrm-example fields.AnyDigit r g h s = refl
+takes_modrm-example fields.ShiftDigit r g h s = refl
+takes_modrm-example fields.Direct r g h s = refl
+takes_modrm-example fields.Memory r g h s = refl
+takes_modrm-example (fields.Digit d) r g h s = eq-eqb _ d (digit-example d (ltb-true d 8 s))
+takes_modrm-example (fields.DigitMemory d) r g h s = let k = ltb-true d 8 s in and_from _ _ (eq-eqb _ d (memory-example d k)) (lt-ltb (8 * d) 0xC0 (omega arith))
+takes_modrm-example fields.Control r (inl e) h s = ap (λ (n : ℕ). is_control (reg_of 0xC0 + n)) e
+takes_modrm-example fields.Control r (inr e) h s = ap (λ (n : ℕ). is_control (reg_of 0xC0 + n)) e
+takes_modrm-example fields.Debug r g h s = refl
+takes_modrm-example (fields.Exact b) r g h s = eq-eqb b b refl
 
 example-small : (f : OperandFields) → has_bytes f ≡ true → example f < 256
 example-small fields.Absent s = lit< tt
@@ -77,6 +79,7 @@ example-small fields.Accumulator s = lit< tt
 example-small fields.Opcode s = lit< tt
 example-small fields.Any s = lit< tt
 example-small fields.AnyDigit s = lit< tt
+example-small fields.ShiftDigit s = lit< tt
 example-small fields.Direct s = lit< tt
 example-small fields.Memory s = lit< tt
 example-small (fields.Digit d) s = let h = ltb-true d 8 s in omega arith
@@ -144,7 +147,7 @@ module _ (p : Prefixes) (r : Rex) (steady : IsSteady r) where
     unfolding Found
     live_modrm h =
         first_where-some (starts p r m opcode) (matches p r m opcode (example first.fields)) table first was
-        (and_from _ _ (first_where-passes (starts p r m opcode) table first was) (fits-example first.fields r steady h (and_parts _ _ first_sound).0))
+        (and_from _ _ (first_where-passes (starts p r m opcode) table first was) (takes_modrm-example first.fields r steady h (and_parts _ _ first_sound).0))
 
     on_modrm : IsReader (modrm_at p r m opcode first)
     unfolding modrm_at

@@ -3,7 +3,8 @@ use Rattle.std.proofs.Common.{◌≡◌, ◌==◌, ℕ, ◌+◌, ◌*◌, ◌%�
 use Rattle.row_table.proofs.Bind.{then, IsReader-then}
 use Rattle.row_table.proofs.Readers.{Reader, IsReader}
 use Rattle.row_table.proofs.Single.{pure, IsReader-pure, IsReader-same, IsReader-cond, IsReader-on_byte, on_byte}
-use Rattle.svm_model.specs.RowParts.{cut, full_at, whole_at, immediate_at, is_of_byte, operand_by, operand_field_at}
+use Rattle.svm_model.specs.Operands.{cut}
+use Rattle.svm_model.specs.RowParts.{full_at, whole_at, immediate_at, is_of_byte, operand_by, operand_field_at}
 use Rattle.svm_model.specs.InstructionBytes.{byte_at, word_at, double_at, quad_at}
 use Rattle.svm_model.specs.ModRm.{extended_8, extended_32, displacement_at, displacement_size, base_of, index_of, scale_of, is_baseless, mode_of, rm_of, register_operand, sib_at, operand_at}
 use Rattle.svm_model.specs.declared.row_lines.Displacement.{Displacement}
@@ -56,7 +57,7 @@ pub IsReader-sib : (segment : ℕ) (rex : Rex) (mode : ℕ) → IsReader (sib_at
 unfolding sib_at
 IsReader-sib segment rex mode =
     IsReader-then byte_at _ IsReader-byte (λ sib.
-    IsReader-mapped (λ d. operand.Memory (base_of rex mode (sib % 8)) (index_of rex sib) (scale_of sib) d false segment) (displacement_at (displacement_size mode (sib % 8))) (IsReader-displacement (displacement_size mode (sib % 8))))
+    IsReader-mapped (λ d. operand.Memory (base_of rex mode (sib % 8)) (index_of rex sib) (scale_of (index_of rex sib) sib) d false segment) (displacement_at (displacement_size mode (sib % 8))) (IsReader-displacement (displacement_size mode (sib % 8))))
 
 pub IsReader-operand : (segment : ℕ) (rex : Rex) (small : Bool) (modrm : ℕ) → IsReader (operand_at segment rex small modrm)
 unfolding operand_at
@@ -79,6 +80,7 @@ IsReader-operand_by fields.Debug segment rex o = IsReader-pure (register_operand
 IsReader-operand_by (fields.Exact byte) segment rex o = IsReader-pure operand.None
 IsReader-operand_by fields.Any segment rex o = IsReader-operand segment rex (is_of_byte o.line.size) o.modrm
 IsReader-operand_by fields.AnyDigit segment rex o = IsReader-operand segment rex (is_of_byte o.line.size) o.modrm
+IsReader-operand_by fields.ShiftDigit segment rex o = IsReader-operand segment rex (is_of_byte o.line.size) o.modrm
 IsReader-operand_by fields.Direct segment rex o = IsReader-operand segment rex (is_of_byte o.line.size) o.modrm
 IsReader-operand_by fields.Memory segment rex o = IsReader-operand segment rex (is_of_byte o.line.size) o.modrm
 IsReader-operand_by (fields.Digit d) segment rex o = IsReader-operand segment rex (is_of_byte o.line.size) o.modrm

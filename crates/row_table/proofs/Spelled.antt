@@ -11,7 +11,7 @@ use Rattle.svm_model.specs.Decoding.{listed, modrm_at, line_at, escape_of, escap
 use Rattle.svm_model.specs.RowParts.{opened, width_of, row_of, immediate_at, operand_field_at}
 use Rattle.svm_model.specs.InstructionBytes.{◌>>=◌, byte_at}
 use Rattle.svm_model.specs.Prefixes.{no_prefix, with_prefix, prefixes_of, no_rex, is_rex, rex_of, rex_and_rest}
-use Rattle.svm_model.specs.RowLines.{opens, is_allowed, has_modrm, fits, leads, starts, matches, first_line, fitting_line}
+use Rattle.svm_model.specs.RowLines.{opens, is_allowed, has_modrm, takes_modrm, leads, starts, matches, first_line, fitting_line}
 use Rattle.svm_model.specs.RowTable.{table}
 use Rattle.svm_model.specs.Rows.{IsForm}
 use Rattle.svm_model.specs.Spelling.{ArePrefixes, IsRex, opcode_bytes, IsModrm, IsLineOf, IsSpelled}
@@ -85,7 +85,7 @@ module _ (p : Prefixes) (r : Rex) (m : OpcodeMap) (b : ℕ) (line : RowLine) (by
   one_line : (x : RowLine) → IsLineOf x table → starts p r m b x ≡ true → (x ≡ line) ⊎ AreApart x line r
   one_line x i e = let t = and_parts _ _ e in one_or_apart m b x line r byte i is_listed t.0 is_opcode (and_parts _ _ t.1).1 (and_parts _ _ allowed).1
 
-  fitting_read : (f : ℕ) → fits line.fields r f ≡ true → fitting_line p r m b f table ≡ Some line
+  fitting_read : (f : ℕ) → takes_modrm line.fields r f ≡ true → fitting_line p r m b f table ≡ Some line
   fitting_read f h = first_where-only (matches p r m b f) table line is_listed (and_from _ _ (and_from _ _ is_opcode allowed) h) only where
     only : (x : RowLine) → IsLineOf x table → matches p r m b f x ≡ true → x ≡ line
     only x i e = go (one_line x i (and_parts _ _ e).0) where
@@ -105,13 +105,13 @@ module _ (p : Prefixes) (r : Rex) (m : OpcodeMap) (b : ℕ) (line : RowLine) (by
   line_read fs f more h =
       let x = first_read in
       ap (λ o. listed o b >>= (λ l. modrm_at p r m b l (fs ++ more))) x.1 ∙ go x.0 x.2 (has_modrm line.fields) refl h where
-        with_fields : (x : RowLine) → has_modrm x.fields ≡ true → fs ≡ f ∷ [] → fits line.fields r f ≡ true → modrm_at p r m b x (fs ++ more) ≡ Ok (opened line b f, more)
+        with_fields : (x : RowLine) → has_modrm x.fields ≡ true → fs ≡ f ∷ [] → takes_modrm line.fields r f ≡ true → modrm_at p r m b x (fs ++ more) ≡ Ok (opened line b f, more)
         with_fields x h e k =
             ap (λ t. cond t (byte_at (fs ++ more) >>= (λ g. listed (fitting_line p r m b g.0 table) g.0 >>= (λ l. Ok (opened l b g.0, g.1)))) (Ok (opened x b 0, fs ++ more))) h
             ∙ ap (λ fs. byte_at (fs ++ more) >>= (λ g. listed (fitting_line p r m b g.0 table) g.0 >>= (λ l. Ok (opened l b g.0, g.1)))) e
             ∙ ap (λ o. listed o f >>= (λ l. Ok (opened l b f, more))) (fitting_read f k)
 
-        go : (x : RowLine) → (x ≡ line) ⊎ AreApart x line r → (t : Bool) → has_modrm line.fields ≡ t → MatchBool t ((fs ≡ f ∷ []) × (fits line.fields r f ≡ true)) ((fs ≡ []) × (f ≡ 0)) → modrm_at p r m b x (fs ++ more) ≡ Ok (opened line b f, more)
+        go : (x : RowLine) → (x ≡ line) ⊎ AreApart x line r → (t : Bool) → has_modrm line.fields ≡ t → MatchBool t ((fs ≡ f ∷ []) × (takes_modrm line.fields r f ≡ true)) ((fs ≡ []) × (f ≡ 0)) → modrm_at p r m b x (fs ++ more) ≡ Ok (opened line b f, more)
         go x (inl same) true e k = with_fields x (ap (λ l. has_modrm l.fields) same ∙ e) k.0 k.1
         go x (inr h) true e k = with_fields x h.both.0 k.0 k.1
         go x (inl same) false e k =

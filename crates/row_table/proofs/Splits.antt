@@ -5,7 +5,7 @@ use Rattle.svm_model.specs.Decoding.{listed, modrm_at, line_at, escape_of, escap
 use Rattle.svm_model.specs.RowParts.{opened}
 use Rattle.svm_model.specs.InstructionBytes.{◌>>=◌, byte_at}
 use Rattle.svm_model.specs.Prefixes.{with_prefix, prefixes_of, no_rex, is_rex, rex_of, rex_and_rest}
-use Rattle.svm_model.specs.RowLines.{same_map, opens, is_allowed, has_modrm, fits, starts, matches, first_where, leading_line, first_line, fitting_line}
+use Rattle.svm_model.specs.RowLines.{same_map, opens, is_allowed, has_modrm, takes_modrm, starts, matches, first_where, leading_line, first_line, fitting_line}
 use Rattle.svm_model.specs.RowTable.{table}
 use Rattle.svm_model.specs.Spelling.{ArePrefixes, IsRex, opcode_bytes, IsModrm, IsLineOf}
 use Rattle.svm_model.specs.declared.row_lines.OperandFields.{OperandFields}
@@ -68,14 +68,15 @@ first_where-is test (x ∷ xs) l e = go (test x) refl (λ f. first_where-is test
   go true h later f = let same : x ≡ l = cc in (inl same, ap test (sym same) ∙ h)
   go false h later f = let r = later f in (inr r.0, r.1)
 
-fits-has : (l : RowLine) (r : Rex) (m : ℕ) → fits l.fields r m ≡ true → has_modrm l.fields ≡ true
-fits-has l r m e = go l.fields e where
-  go : (f : OperandFields) → fits f r m ≡ true → has_modrm f ≡ true
+takes_modrm-has : (l : RowLine) (r : Rex) (m : ℕ) → takes_modrm l.fields r m ≡ true → has_modrm l.fields ≡ true
+takes_modrm-has l r m e = go l.fields e where
+  go : (f : OperandFields) → takes_modrm f r m ≡ true → has_modrm f ≡ true
   go fields.Absent e = absurd (cc)
   go fields.Accumulator e = absurd (cc)
   go fields.Opcode e = absurd (cc)
   go fields.Any e = refl
   go fields.AnyDigit e = refl
+  go fields.ShiftDigit e = refl
   go fields.Direct e = refl
   go fields.Memory e = refl
   go (fields.Digit d) e = refl
@@ -100,14 +101,14 @@ line_split p r m b bs x e = let f = bind_ok (listed (first_line p r m b table) b
       let parts = and_parts _ _ is.1 in
       let start = and_parts _ _ parts.0 in
       subst (LineSplit p r m b bs) (same_ok (opened y b g.0.0, g.0.1) x k.2)
-      (g.0.0 ∷ [], refl, is.0, start.0, start.1, subst (λ (t : Bool). MatchBool t ((g.0.0 ∷ [] ≡ g.0.0 ∷ []) × (fits y.fields r g.0.0 ≡ true)) ((g.0.0 ∷ [] ≡ []) × (g.0.0 ≡ 0))) (sym (fits-has y r g.0.0 parts.1)) (refl, parts.1), byte_ok bs g.0 g.1)
+      (g.0.0 ∷ [], refl, is.0, start.0, start.1, subst (λ (t : Bool). MatchBool t ((g.0.0 ∷ [] ≡ g.0.0 ∷ []) × (takes_modrm y.fields r g.0.0 ≡ true)) ((g.0.0 ∷ [] ≡ []) × (g.0.0 ≡ 0))) (sym (takes_modrm-has y r g.0.0 parts.1)) (refl, parts.1), byte_ok bs g.0 g.1)
   go l was false h e =
       let none : List ℕ = [] in
       let absent : ℕ = 0 in
       let is = first_where-is (starts p r m b) table l was in
       let start = and_parts _ _ is.1 in
       subst (LineSplit p r m b bs) (same_ok (opened l b 0, bs) x e)
-      ([], refl, is.0, start.0, start.1, subst (λ (t : Bool). MatchBool t ((none ≡ absent ∷ []) × (fits l.fields r absent ≡ true)) ((none ≡ []) × (absent ≡ absent))) (sym h) (refl, refl), refl)
+      ([], refl, is.0, start.0, start.1, subst (λ (t : Bool). MatchBool t ((none ≡ absent ∷ []) × (takes_modrm l.fields r absent ≡ true)) ((none ≡ []) × (absent ≡ absent))) (sym h) (refl, refl), refl)
 
 -- the line has the map
 map_is : (m : OpcodeMap) (n : OpcodeMap) → same_map m n ≡ true → m ≡ n

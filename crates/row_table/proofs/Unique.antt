@@ -5,7 +5,7 @@ use Rattle.std.specs.List.{list_all}
 use Rattle.std.specs.Prelude.{filter, nat_le, ◌==◌}
 use Rattle.row_table.proofs.Lengths.{listed_all}
 use Rattle.svm_model.specs.Prefixes.{is_rex}
-use Rattle.svm_model.specs.RowLines.{opens, has_modrm, meets, fits, first_where}
+use Rattle.svm_model.specs.RowLines.{opens, has_modrm, meets, takes_modrm, first_where}
 use Rattle.svm_model.specs.RowTable.{table}
 use Rattle.svm_model.specs.Spelling.{IsLineOf}
 use Rattle.svm_model.specs.declared.row_lines.OperandFields.{OperandFields}
@@ -111,14 +111,14 @@ apart-has_modrm (fields.DigitMemory a) (fields.Exact b) e = (refl, refl)
 apart-has_modrm (fields.Exact a) (fields.Exact b) e = (refl, refl)
 apart-has_modrm f g e = absurd (cc)
 
-apart-fits : (f g : OperandFields) (r : Rex) (m : ℕ) → are_apart f g ≡ true → fits f r m ≡ true → fits g r m ≡ true → ⊥
-apart-fits (fields.Digit a) (fields.Digit b) r m e p q = eqb-false a b (not-true (eqb a b) e) (sym (eqb-true _ a p) ∙ eqb-true _ b q)
-apart-fits (fields.DigitMemory a) (fields.DigitMemory b) r m e p q = eqb-false a b (not-true (eqb a b) e) (sym (eqb-true _ a (and_parts _ _ p).0) ∙ eqb-true _ b (and_parts _ _ q).0)
-apart-fits (fields.DigitMemory a) (fields.Exact b) r m e p q = other m b (leb-true 0xC0 b e) (ltb-true m 0xC0 (and_parts _ _ p).1) (eqb-true m b q) where
+apart-takes_modrm : (f g : OperandFields) (r : Rex) (m : ℕ) → are_apart f g ≡ true → takes_modrm f r m ≡ true → takes_modrm g r m ≡ true → ⊥
+apart-takes_modrm (fields.Digit a) (fields.Digit b) r m e p q = eqb-false a b (not-true (eqb a b) e) (sym (eqb-true _ a p) ∙ eqb-true _ b q)
+apart-takes_modrm (fields.DigitMemory a) (fields.DigitMemory b) r m e p q = eqb-false a b (not-true (eqb a b) e) (sym (eqb-true _ a (and_parts _ _ p).0) ∙ eqb-true _ b (and_parts _ _ q).0)
+apart-takes_modrm (fields.DigitMemory a) (fields.Exact b) r m e p q = other m b (leb-true 0xC0 b e) (ltb-true m 0xC0 (and_parts _ _ p).1) (eqb-true m b q) where
   other : (m b : ℕ) → 0xC0 ≤ b → m < 0xC0 → m ≡ b → ⊥
   other m b h k s = omega (arith, h, k, s)
-apart-fits (fields.Exact a) (fields.Exact b) r m e p q = eqb-false a b (not-true (eqb a b) e) (sym (eqb-true m a p) ∙ eqb-true m b q)
-apart-fits f g r m e p q = cc
+apart-takes_modrm (fields.Exact a) (fields.Exact b) r m e p q = eqb-false a b (not-true (eqb a b) e) (sym (eqb-true m a p) ∙ eqb-true m b q)
+apart-takes_modrm f g r m e p q = cc
 
 contrary-meets : (a b : RexNeeds) (r : Rex) → are_contrary a b ≡ true → meets a r ≡ true → meets b r ≡ true → ⊥
 contrary-meets needs.Base needs.NoBase r e p q = let h = eqb-true r.base 8 p in let k = eqb-true r.base 0 q in never r.base h k where
@@ -129,10 +129,10 @@ contrary-meets a b r e p q = cc
 -- Of two lines with one opcode that both may have a REX prefix: they are one, or both have ModRM, and no byte fits both.
 pub record AreApart (k l : RowLine) (r : Rex) : Type 0 where
   pub both : (has_modrm k.fields ≡ true) × (has_modrm l.fields ≡ true)
-  pub none : (m : ℕ) → fits k.fields r m ≡ true → fits l.fields r m ≡ true → ⊥
+  pub none : (m : ℕ) → takes_modrm k.fields r m ≡ true → takes_modrm l.fields r m ≡ true → ⊥
 
 apart_of : (k l : RowLine) (r : Rex) → are_apart k.fields l.fields ≡ true → AreApart k l r
-apart_of k l r e = record { both = apart-has_modrm k.fields l.fields e; none = λ m p q. apart-fits k.fields l.fields r m e p q }
+apart_of k l r e = record { both = apart-has_modrm k.fields l.fields e; none = λ m p q. apart-takes_modrm k.fields l.fields r m e p q }
 
 turned : (k l : RowLine) (r : Rex) → AreApart k l r → AreApart l k r
 turned k l r a = record { both = (a.both.1, a.both.0); none = λ m p q. a.none m q p }

@@ -1,7 +1,7 @@
 // Reads the bytes of an instruction.
 ghost use Rattle.std.specs.Prelude.{◌≡◌, ◌≢◌, ◌<◌, ◌≤◌, ◌++◌, ℕ, List, [], length, Bool};
 ghost use Rattle.svm_model.specs.Decoding.{escape_of, line_at, opened_at, row_at};
-ghost use Rattle.svm_model.specs.RowParts.{arithmetic, op_by, condition_by, width_of, is_byte, is_of_byte, cut, full_at, whole_at, immediate_at, operand_field_at, register_by};
+ghost use Rattle.svm_model.specs.RowParts.{arithmetic, shift_or_rotation, op_by, condition_by, width_of, is_byte, is_of_byte, full_at, whole_at, immediate_at, operand_field_at, register_by};
 ghost use Rattle.svm_model.specs.InstructionBytes.{Reads};
 ghost use Rattle.svm_model.specs.Rows.{decoded, IsForm, LeavesForms, IsDecoded};
 ghost use Rattle.svm_model.specs.Spelling.{IsSpelled, IsDecodedSpelling};
@@ -10,6 +10,7 @@ use crate::fields::{extended_8, extended_32, read_rm, register_code, register_op
 use crate::input::Input;
 use crate::prefixes::{read_prefixes, read_rex};
 use crate::table::{first_line, fitting_line, has_modrm, leading_line};
+use register_file::cut;
 use svm_model::{
     Decoded, Immediate, LineOperation, Op, OpcodeMap, OpenedLine, Operand, OperandFields,
     OperandSize, Prefixes, Rex, Row, Unread, Width,
@@ -31,12 +32,26 @@ fn arithmetic(number: u8) -> Op
     }
 }
 
+/// ROL ROR SHL SHR SAR.
+fn shift_or_rotation(digit: u8) -> Op
+    ensures { result ≡ shift_or_rotation digit }
+{
+    match digit {
+        0 => Op::Rol,
+        1 => Op::Ror,
+        4 => Op::Shl,
+        5 => Op::Shr,
+        _ => Op::Sar,
+    }
+}
+
 fn op_by(operation: LineOperation, opcode: u8, modrm: u8) -> Op
     ensures { result ≡ op_by operation opcode modrm }
 {
     match operation {
         LineOperation::ByOpcode => arithmetic(opcode / 8),
         LineOperation::ByDigit => arithmetic(modrm / 8 % 8),
+        LineOperation::ByShiftDigit => shift_or_rotation(modrm / 8 % 8),
         LineOperation::Is(op) => op,
         LineOperation::Conditional(op) => op,
     }
@@ -77,17 +92,6 @@ fn is_of_byte(size: OperandSize) -> bool
     ensures { result ≡ is_of_byte size }
 {
     matches!(size, OperandSize::Byte | OperandSize::FromByte)
-}
-
-fn cut(width: Width, number: u64) -> u64
-    ensures { result ≡ cut width number }
-{
-    match width {
-        Width::W8 => number % 0x100,
-        Width::W16 => number % 0x1_0000,
-        Width::W32 => number % 0x1_0000_0000,
-        Width::W64 => number,
-    }
 }
 
 /// Reads as many bytes as the width has, at most four, and extends them by their sign.
@@ -219,6 +223,7 @@ fn read_operand(
         | OperandFields::Direct
         | OperandFields::Memory
         | OperandFields::AnyDigit
+        | OperandFields::ShiftDigit
         | OperandFields::Digit(_)
         | OperandFields::DigitMemory(_) => read_rm(input, segment, rex, small, opened.modrm),
     }

@@ -48,10 +48,13 @@ fn size_of_mode(mode: u8) -> Displacement
     }
 }
 
-/// The factor of an index.
-fn scale_of(sib: u8) -> u8
-    ensures { result ≡ scale_of sib }
+/// The factor of an index, or 1 where there is none.
+fn scale_of(index: Option<u8>, sib: u8) -> u8
+    ensures { result ≡ scale_of index sib }
 {
+    if index.is_none() {
+        return 1;
+    }
     match sib / 64 {
         0 => 1,
         1 => 2,
@@ -85,7 +88,7 @@ fn read_sib(input: &mut Input, segment: u8, rex: Rex, mode: u8) -> Result<Operan
     Ok(Operand::Memory {
         base,
         index,
-        scale: scale_of(sib),
+        scale: scale_of(index, sib),
         displacement,
         next: false,
         segment,

@@ -2,13 +2,14 @@
 //!
 //! `decode` reads bytes against the listed forms. Its contract speaks of the forms alone: a row stands at the front of
 //! the bytes, or some form goes on from them, or a byte is the first with which no form goes on. It is pure over a slice
-//! and keeps nothing. The forms stand as one list, a line for each opcode line of volume 3, in the code and in the
-//! definitions of `svm_model`, on which the crate stands; what a form is stands there also as a relation between bytes
-//! and row (`specs/Spelling.antt`), of which `decode`'s contract speaks too. `plan` lists the data accesses of a row, in
-//! order, as `specs/Planning.antt` has them. The machines use `decode`'s and `plan`'s clauses.
+//! and keeps nothing. The forms stand as one list, a line each in the manual's order, in `svm_model`, on which the crate
+//! stands; definitions and code both read it there. What a form is stands there also as a relation between bytes and row
+//! (`specs/Spelling.antt`), of which `decode`'s contract speaks too. `plan` lists the data accesses of a row, in order, as
+//! `specs/Planning.antt` has them. The other calls look a form up in the columns of the list. The machines use `decode`'s
+//! and `plan`'s clauses.
 #![tactic(auto)]
 
-mod addresses;
+mod columns;
 mod decoding;
 mod fields;
 mod input;
@@ -16,6 +17,10 @@ mod planning;
 mod prefixes;
 mod table;
 
+pub use columns::{
+    columns_agree, counts_by_cl, has_immediate, has_one_operand, is_reversed, is_user_row,
+    names_dx, operand_width, takes_lock,
+};
 pub use decoding::decode;
 pub use planning::plan;
 pub use svm_model::{

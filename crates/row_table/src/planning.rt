@@ -2,14 +2,14 @@
 ghost use Rattle.std.specs.Prelude.{◌≡◌, ◌≤◌, ◌++◌, ◌+◌, IfSome, [], length};
 ghost use Rattle.std.specs.List.{All};
 ghost use Rattle.svm_model.specs.Branches.{popped};
-ghost use Rattle.svm_model.specs.Moves.{source_width};
 ghost use Rattle.svm_model.specs.Operands.{state};
-ghost use Rattle.svm_model.specs.Sources.{is_reversed};
-ghost use Rattle.svm_model.specs.Planning.{IsQuadAtMost, touch_of, operand_touch, extends, operand_bytes, loads_table, memory_accesses, operand_accesses, push_access, pop_access, stack_access, planned};
+ghost use Rattle.svm_model.specs.Sources.{is_reversed, operand_width};
+ghost use Rattle.svm_model.specs.Planning.{IsQuadAtMost, touch_of, operand_touch, operand_bytes, is_lgdt_or_lidt, memory_accesses, operand_accesses, push_access, pop_access, stack_access, planned};
 
-use crate::addresses::{RBP, RSP, is_memory, is_on_stack, linear_address, whole_register};
+use crate::columns::{is_reversed, operand_width};
 use arrayvec::ArrayVec;
-use svm_model::{Form, Op, PlannedAccess, Registers, Row, Touch, Width};
+use register_file::{RBP, RSP, is_memory, is_on_stack, linear_address, whole_register};
+use svm_model::{Op, PlannedAccess, Registers, Row, Touch, Width};
 
 /// What an instruction does to its memory operand, in the manual's order.
 #[tactic(auto, unfolding(svm_model::specs::Planning::touch_of))]
@@ -39,17 +39,6 @@ fn touch_of(op: Op) -> Option<Touch>
     }
 }
 
-/// Whether the reg field names the destination, and r/m the source.
-#[tactic(auto, unfolding(svm_model::specs::Sources::is_reversed))]
-fn is_reversed(form: Form) -> bool
-    ensures { result ≡ is_reversed form }
-{
-    matches!(
-        form,
-        Form::Arithmetic02 | Form::Arithmetic03 | Form::Mov8A | Form::Mov8B
-    )
-}
-
 /// What a row does to its memory operand.
 fn operand_touch(row: &Row) -> Option<Touch>
     ensures { result ≡ operand_touch row.now }
@@ -61,38 +50,13 @@ fn operand_touch(row: &Row) -> Option<Touch>
     }
 }
 
-/// Whether the source is narrower than the result.
-#[tactic(auto, unfolding(svm_model::specs::Planning::extends))]
-fn extends(op: Op) -> bool
-    ensures { result ≡ extends op }
-{
-    matches!(op, Op::Movsx | Op::Movsxd | Op::Movzx)
-}
-
-/// The width of the source of MOVZX, MOVSX and MOVSXD.
-#[tactic(auto, unfolding(svm_model::specs::Moves::source_width))]
-fn source_width(form: Form) -> Width
-    ensures { result ≡ source_width form }
-{
-    match form {
-        Form::Movzx0FB6 | Form::Movsx0FBE => Width::W8,
-        Form::Movsxd63 => Width::W32,
-        _ => Width::W16,
-    }
-}
-
 /// How many bytes an operand in memory has.
 fn operand_bytes(row: &Row) -> u8
     ensures value { result ≡ operand_bytes row.now }
     ensures some { 1 ≤ result }
     ensures quad { result ≤ 8 }
 {
-    let width = if extends(row.op) {
-        source_width(row.form)
-    } else {
-        row.width
-    };
-    match width {
+    match operand_width(row) {
         Width::W8 => 1,
         Width::W16 => 2,
         Width::W32 => 4,
@@ -101,9 +65,9 @@ fn operand_bytes(row: &Row) -> u8
 }
 
 /// Whether the row loads the register of a descriptor table.
-#[tactic(auto, unfolding(svm_model::specs::Planning::loads_table))]
-fn loads_table(op: Op) -> bool
-    ensures { result ≡ loads_table op }
+#[tactic(auto, unfolding(svm_model::specs::Planning::is_lgdt_or_lidt))]
+fn is_lgdt_or_lidt(op: Op) -> bool
+    ensures { result ≡ is_lgdt_or_lidt op }
 {
     matches!(op, Op::Lgdt | Op::Lidt)
 }
@@ -116,7 +80,7 @@ fn plan_memory(row: &Row, address: u64, stack: bool, accesses: &mut ArrayVec<Pla
     ensures few { length accesses.new.items ≤ length accesses.old.items + 2 }
     ensures value { accesses.new.items ≡ accesses.old.items ++ memory_accesses row.now address stack }
 {
-    if loads_table(row.op) {
+    if is_lgdt_or_lidt(row.op) {
         accesses.push(PlannedAccess {
             address,
             length: 2,

@@ -166,6 +166,7 @@ const ROWS: [Case; 268] = [
     case!([0x48, 0xd1, 0x0c, 0x25, 0xf0, 0xff, 0xff, 0xff], 8, Ror, ShiftD1, W64, false, 0, (memory _ _ 1 0xffff_ffff_ffff_fff0 0), 1, 0), // ror QWORD PTR ds:0xfffffffffffffff0,1
     case!([0x64, 0xd1, 0x64, 0x4d, 0x7f], 5, Shl, ShiftD1, W32, false, 0, (memory 5 1 2 0x7f 4), 1, 0), // shl DWORD PTR fs:[rbp+rcx*2+0x7f],1
     case!([0xf0, 0x64, 0x47, 0xd1, 0x6c, 0x25, 0x00], 7, Shr, ShiftD1, W32, true, 0, (memory 13 12 1 0 4), 1, 0), // lock rex.RXB shr DWORD PTR fs:[r13+r12*1+0x0],1
+    case!([0xd1, 0x3c, 0xe4], 3, Sar, ShiftD1, W32, false, 0, (memory 4 _ 1 0 0), 1, 0), // sar DWORD PTR [rsp+riz*8],1
     case!([0x42, 0xd1, 0x3c, 0xa0], 4, Sar, ShiftD1, W32, false, 0, (memory 0 12 4 0 0), 1, 0), // sar DWORD PTR [rax+r12*4],1
     case!([0x65, 0x4d, 0xd2, 0x05, 0xfc, 0xff, 0xff, 0xff], 8, Rol, ShiftD2, W8, false, 0, (next 0xffff_ffff_ffff_fffc 5), 0, 0), // rex.WRB rol BYTE PTR gs:[rip+0xfffffffffffffffc],cl
     case!([0x41, 0xd2, 0x0c, 0x5d, 0x01, 0x02, 0x03, 0x04], 8, Ror, ShiftD2, W8, false, 0, (memory _ 3 2 0x403_0201 0), 0, 0), // ror BYTE PTR [rbx*2+0x4030201],cl
@@ -194,7 +195,7 @@ const ROWS: [Case; 268] = [
     case!([0x4c, 0x86, 0xcf], 3, Xchg, Xchg86, W8, false, 9, (register 7), 0, 0), // rex.WR xchg dil,r9b
     case!([0x65, 0x66, 0x40, 0x87, 0xf4], 5, Xchg, Xchg87, W16, false, 6, (register 4), 0, 0), // gs rex xchg sp,si
     case!([0x41, 0x90], 2, Xchg, Xchg90, W32, false, 0, (register 8), 0, 0), // xchg r8d,eax
-    case!([0x64, 0x95], 2, Xchg, Xchg90, W32, false, 0, (register 5), 0, 0), // fs xchg ebp,eax
+    case!([0x64, 0x95], 2, Xchg, Xchg91, W32, false, 0, (register 5), 0, 0), // fs xchg ebp,eax
     case!([0xf0, 0x64, 0x49, 0x0f, 0xb0, 0xee], 6, Cmpxchg, Cmpxchg0FB0, W8, true, 5, (register 14), 0, 0), // lock fs rex.WB cmpxchg r14b,bpl
     case!([0x0f, 0xb1, 0x10], 3, Cmpxchg, Cmpxchg0FB1, W32, false, 2, (memory 0 _ 1 0 0), 0, 0), // cmpxchg DWORD PTR [rax],edx
     case!([0x65, 0x44, 0x0f, 0xc0, 0x3d, 0x78, 0x56, 0x34, 0x12], 9, Xadd, Xadd0FC0, W8, false, 15, (next 0x1234_5678 5), 0, 0), // xadd BYTE PTR gs:[rip+0x12345678],r15b
@@ -362,8 +363,8 @@ const ROWS: [Case; 268] = [
     case!([0x66, 0x90], 2, Nop, Nop90, W16, false, 0, (none), 0, 0), // xchg ax,ax
     case!([0x48, 0x90], 2, Nop, Nop90, W64, false, 0, (none), 0, 0), // rex.W nop
     case!([0x49, 0x90], 2, Xchg, Xchg90, W64, false, 0, (register 8), 0, 0), // xchg r8,rax
-    case!([0x49, 0x91], 2, Xchg, Xchg90, W64, false, 0, (register 9), 0, 0), // xchg r9,rax
-    case!([0x66, 0x97], 2, Xchg, Xchg90, W16, false, 0, (register 7), 0, 0), // xchg di,ax
+    case!([0x49, 0x91], 2, Xchg, Xchg91, W64, false, 0, (register 9), 0, 0), // xchg r9,rax
+    case!([0x66, 0x97], 2, Xchg, Xchg91, W16, false, 0, (register 7), 0, 0), // xchg di,ax
     case!([0x41, 0x6a, 0x80], 3, Push, Push6A, W64, false, 0, (none), 0xffff_ffff_ffff_ff80, 0), // rex.B push 0xffffffffffffff80
     case!([0x4c, 0x63, 0xff], 3, Movsxd, Movsxd63, W64, false, 15, (register 7), 0, 0), // movsxd r15,edi
     case!([0x66, 0x65, 0x48, 0x63, 0x0c, 0x24], 6, Movsxd, Movsxd63, W64, false, 1, (memory 4 _ 1 0 5), 0, 0), // movsxd rcx,DWORD PTR gs:[rsp]

@@ -1,7 +1,10 @@
 pub mod BusLemmas
+pub mod CanonicalLemmas
 pub mod EndLemmas
+pub mod LeadsLemmas
 pub mod PutLemmas
 pub mod RflagsLemmas
+pub mod RowTableLemmas
 pub mod UserRowLemmas
 pub mod WalkLemmas
 pub mod WindowLemmas

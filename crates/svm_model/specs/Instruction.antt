@@ -10,6 +10,7 @@ use Rattle.svm_model.specs.Operands.{State, state, rax, rdx, whole_register, wit
 use Rattle.svm_model.specs.Planning.{planned}
 use Rattle.svm_model.specs.RegisterFile.{is_user, io_privilege}
 use Rattle.svm_model.specs.Rows.{decoded}
+use Rattle.svm_model.specs.Sources.{names_dx}
 use Rattle.svm_model.specs.UserRows.{is_user_row}
 use Rattle.svm_model.specs.declared.names.End.TheVariants.{Unlisted, Mode}
 use Rattle.svm_model.specs.declared.names.Kind.TheVariants.{Fetch}
@@ -17,8 +18,6 @@ use Rattle.svm_model.specs.declared.ports.PortWrite.{PortWrite}
 use Rattle.svm_model.specs.declared.register_file.Registers.{Registers}
 use Rattle.svm_model.specs.declared.rows.Decoded.{Decoded}
 use Rattle.svm_model.specs.declared.rows.Decoded.TheVariants.{Row, More, Unlisted as NoForm}
-use Rattle.svm_model.specs.declared.rows.Form.{Form}
-use Rattle.svm_model.specs.declared.rows.Form.TheVariants as form
 use Rattle.svm_model.specs.declared.rows.Op.{Op}
 use Rattle.svm_model.specs.declared.rows.Op.TheVariants as op
 use Rattle.svm_model.specs.declared.rows.PlannedAccess.{PlannedAccess}
@@ -54,14 +53,6 @@ halt vcpu row size =
 -- IN and OUT need a CPL of at most IOPL (volume 1, 'I/O Privilege Level')
 abbrev pub may_use_ports : Vcpu → Bool
 may_use_ports vcpu = nat_le vcpu.registers.cpl (io_privilege vcpu.registers)
-
--- the forms of IN and OUT whose port is in DX
-unfoldable pub names_dx : Form → Bool
-names_dx form.InEC = true
-names_dx form.InED = true
-names_dx form.OutEE = true
-names_dx form.OutEF = true
-names_dx _ = false
 
 -- the port of IN and OUT, of 16 bits: in DX, or a byte of the instruction
 abbrev pub port_of : Vcpu → Instruction → ℕ

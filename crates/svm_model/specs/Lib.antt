@@ -28,7 +28,9 @@ pub mod Prefixes
 pub mod Products
 pub mod RegisterFile
 pub mod Rflags
+pub mod RowColumns
 pub mod RowLines
+pub mod RowNumbers
 pub mod RowParts
 pub mod RowTable
 pub mod Rows

@@ -9,6 +9,7 @@
 mod applied;
 mod flags;
 mod formats;
+mod instruction_table;
 mod names;
 mod page_tables;
 mod ports;
@@ -22,6 +23,7 @@ mod windows;
 pub use applied::Applied;
 pub use flags::{Flags, LogicKind, NoQuotient, ShiftKind};
 pub use formats::{ImageReason, ScriptLine, ScriptReason};
+pub use instruction_table::TABLE;
 pub use names::{
     Access, CpuId, Effect, End, Ended, Event, Frame, GuestId, Kind, LinearPage, NoMemory, RunEnd,
     VcpuId,
@@ -30,8 +32,8 @@ pub use page_tables::{Entry, Leaf, PageSize, Paging, Pass, Walked};
 pub use ports::PortWrite;
 pub use register_file::{Registers, Segment};
 pub use row_lines::{
-    Displacement, Immediate, LineOperation, OpcodeMap, OpenedLine, OperandFields, OperandSize,
-    Prefixes, Rex, RexNeeds, RowLine, Unread,
+    Displacement, Immediate, LineOperation, LockUse, OpcodeMap, OpenedLine, OperandCode,
+    OperandCodes, OperandFields, OperandSize, Prefixes, Rex, RexNeeds, RowClass, RowLine, Unread,
 };
 pub use rows::{Decoded, Form, Op, Operand, PlannedAccess, Row, Touch, Width};
 pub use traps::{Cause, Trap};

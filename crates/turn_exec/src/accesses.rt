@@ -12,11 +12,12 @@ ghost use Rattle.turn_exec.specs.Rest.{GoesOn};
 
 use crate::parts::{on_apic, read_part, translate_part};
 use crate::translator::Translator;
-use crate::vcpus::{SHUTDOWN, Vcpu, is_canonical, is_user};
+use crate::vcpus::{SHUTDOWN, Vcpu, is_user};
 use arrayvec::ArrayVec;
 use host_memory::{GuestWindow, HostMemory, Steps};
 use std::sync::ledger::Ledger;
 use svm_model::{End, Kind, Part, PlannedAccess, Space, Stepped, Touch, Translated};
+use vm_names::is_canonical;
 
 /// The frames of the parts that a turn has translated, in order: at most two of its fetch and two of each access.
 pub type Frames = ArrayVec<u64, 18>;

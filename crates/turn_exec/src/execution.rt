@@ -3,7 +3,7 @@
 ghost use Rattle.std.specs.Prelude.{◌≡◌, ℕ, ◌%◌, ◌^◌, [], List, Bool, is_ok, true, OnOk, OnErr, IfErr};
 ghost use Rattle.svm_model.specs.Bus.{Bus as BusRecord};
 ghost use Rattle.port_bus.specs.Places.{IsWidth};
-ghost use Rattle.svm_model.specs.Instruction.{at_next, done_system, halt as halt_course, may_use_ports as port_test, names_dx as dx_test, output_of as output_of_row, port_bytes as count_moved, port_of as port_of_row, read_port as read_course, rip_after, write_port as write_course};
+ghost use Rattle.svm_model.specs.Instruction.{at_next, done_system, halt as halt_course, may_use_ports as port_test, output_of as output_of_row, port_bytes as count_moved, port_of as port_of_row, read_port as read_course, rip_after, write_port as write_course};
 ghost use Rattle.svm_model.specs.declared.turns.Space.{Space as SpaceRecord};
 ghost use Rattle.port_bus.specs.Causes.{Blames, NoneFell};
 ghost use Rattle.turn_exec.specs.Follows.{played, stepped_of, WritesOne};
@@ -11,7 +11,8 @@ ghost use Rattle.turn_exec.specs.Follows.{played, stepped_of, WritesOne};
 use crate::vcpus::{SHUTDOWN, Vcpu};
 use port_bus::{Bus, BusState};
 use row_exec::write_register;
-use svm_model::{End, Facts, Form, Op, Registers, Row, RunEnd, Stepped, Width};
+use row_table::names_dx;
+use svm_model::{End, Facts, Op, Registers, Row, RunEnd, Stepped, Width};
 
 /// The vcpu goes on behind the instruction.
 fn step_over(vcpu: &mut Vcpu, length: u8)
@@ -48,14 +49,6 @@ fn may_use_ports(vcpu: &Vcpu) -> bool
 {
     let io_privilege = vcpu.registers.rflags / 0x1000 % 4;
     u64::from(vcpu.registers.cpl) <= io_privilege
-}
-
-/// Whether the form's port is in DX.
-#[tactic(auto, unfolding(svm_model::specs::Instruction::names_dx))]
-fn names_dx(form: Form) -> bool
-    ensures { result ≡ dx_test form }
-{
-    matches!(form, Form::InEC | Form::InED | Form::OutEE | Form::OutEF)
 }
 
 /// The port of IN and OUT: in DX, or a byte of the instruction.

@@ -14,7 +14,7 @@ use crate::execution::execute_system;
 use crate::parts::{on_apic, read_part, translate_part};
 use crate::translator::Translator;
 use crate::user_rows::user_row;
-use crate::vcpus::{SHUTDOWN, Vcpu, is_canonical, is_user};
+use crate::vcpus::{SHUTDOWN, Vcpu, is_user};
 use arrayvec::ArrayVec;
 use host_memory::{GuestWindow, HostMemory, Steps};
 use port_bus::{Bus, BusState};
@@ -22,6 +22,7 @@ use row_exec::is_user_row;
 use row_table::decode;
 use std::sync::ledger::Ledger;
 use svm_model::{Decoded, End, Facts, Kind, Part, Row, RunEnd, Space, Stepped, Translated};
+use vm_names::is_canonical;
 
 /// What the row of an instruction does.
 #[tactic(auto, using(svm_model::proofs::WindowLemmas::windows, port_bus::proofs::Counts::counts, crate::proofs::Turns::turns))]

@@ -19,4 +19,4 @@ mod vcpus;
 
 pub use fetch::instruction;
 pub use translator::Translator;
-pub use vcpus::{Vcpu, is_canonical};
+pub use vcpus::Vcpu;

@@ -1,22 +1,10 @@
 // The addresses of operands in memory.
 ghost use Rattle.std.specs.Prelude.{◌≡◌};
-ghost use Rattle.svm_model.specs.Operands.{whole_register, register_or_zero, is_memory, effective_address};
+ghost use Rattle.svm_model.specs.Operands.{register_or_zero, effective_address};
 ghost use Rattle.svm_model.specs.Addresses.{segment_base, linear_address, is_stack_register, is_on_stack};
 
+use crate::general::{RBP, RSP, whole_register};
 use svm_model::{Operand, Registers};
-
-/// The number of RSP.
-pub const RSP: u8 = 4;
-
-/// The number of RBP.
-pub const RBP: u8 = 5;
-
-/// A register, by the low four bits of its number.
-pub fn whole_register(registers: &Registers, index: u8) -> u64
-    ensures { result ≡ whole_register index registers.now }
-{
-    registers.general[index as usize % 16]
-}
 
 /// A base or an index, or 0 where there is none.
 fn register_or_zero(register: Option<u8>, registers: &Registers) -> u64
@@ -28,8 +16,8 @@ fn register_or_zero(register: Option<u8>, registers: &Registers) -> u64
     }
 }
 
-/// The address of a memory operand within its segment.
-fn effective_address(operand: Operand, next_rip: u64, registers: &Registers) -> u64
+/// The effective address of a memory operand, without the base of a segment (volume 1, 'Effective Addresses').
+pub fn effective_address(operand: Operand, next_rip: u64, registers: &Registers) -> u64
     ensures { result ≡ effective_address operand next_rip registers.now }
 {
     match operand {
@@ -62,7 +50,7 @@ fn segment_base(operand: Operand, registers: &Registers) -> u64
     }
 }
 
-/// The linear address of a memory operand.
+/// The linear address of a memory operand (volume 3, 'Segment-Override Prefixes').
 pub fn linear_address(operand: Operand, registers: &Registers, next_rip: u64) -> u64
     ensures { result ≡ linear_address operand registers.now next_rip }
 {
@@ -79,7 +67,7 @@ fn is_stack_register(register: Option<u8>) -> bool
     }
 }
 
-/// Whether an operand is in the stack segment.
+/// Whether an operand is in the stack segment: its base is RSP or RBP, and no prefix names FS or GS.
 pub fn is_on_stack(operand: Operand) -> bool
     ensures { result ≡ is_on_stack operand }
 {
@@ -87,10 +75,4 @@ pub fn is_on_stack(operand: Operand) -> bool
         Operand::Memory { base, segment, .. } => segment == 0 && is_stack_register(base),
         _ => false,
     }
-}
-
-pub fn is_memory(operand: Operand) -> bool
-    ensures { result ≡ is_memory operand }
-{
-    matches!(operand, Operand::Memory { .. })
 }

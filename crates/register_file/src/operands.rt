@@ -1,9 +1,9 @@
 // The operands of a row: read and written in registers, or by planned accesses.
 ghost use Rattle.std.specs.Prelude.{◌≡◌, ◌^◌, ◌<◌};
 ghost use Rattle.svm_model.specs.Widths.{bits};
-ghost use Rattle.svm_model.specs.Operands.{state, operand_value, with_operand_at, with_operand, is_memory, register_named, upper_accumulator, register_or_zero, effective_address};
+ghost use Rattle.svm_model.specs.Operands.{state, operand_value, with_operand_at, with_operand, is_memory, register_named, upper_accumulator};
 
-use crate::register_file::{cut, register_value, whole_register, write_register};
+use crate::general::{cut, register_value, write_register};
 use svm_model::{Operand, Registers, Width};
 
 /// AL, AX, EAX or RAX.
@@ -48,6 +48,7 @@ pub fn register_named(register: u8) -> Operand
     }
 }
 
+/// Whether the operand is in memory.
 pub fn is_memory(operand: Operand) -> bool
     ensures { result ≡ is_memory operand }
 {
@@ -103,36 +104,4 @@ pub fn write_operand(
     ensures results { results.new ≡ (with_operand width operand value (state registers.old results.old)).results }
 {
     write_operand_at(0, width, operand, value, registers, results);
-}
-
-fn register_or_zero(register: Option<u8>, registers: &Registers) -> u64
-    ensures { result ≡ register_or_zero register registers.now }
-{
-    match register {
-        Some(index) => whole_register(registers, index),
-        None => 0,
-    }
-}
-
-/// The effective address of a memory operand, without the base of a segment.
-pub fn effective_address(operand: Operand, next_rip: u64, registers: &Registers) -> u64
-    ensures { result ≡ effective_address operand next_rip registers.now }
-{
-    match operand {
-        Operand::Memory {
-            base,
-            index,
-            scale,
-            displacement,
-            next,
-            ..
-        } => {
-            let scaled = register_or_zero(index, registers).wrapping_mul(u64::from(scale));
-            register_or_zero(base, registers)
-                .wrapping_add(scaled)
-                .wrapping_add(displacement)
-                .wrapping_add(if next { next_rip } else { 0 })
-        }
-        _ => 0,
-    }
 }

@@ -1,11 +1,18 @@
-// The register file: the only place where registers are written.
+// General registers by width and number (volume 1, 'Byte Registers', 'Zero-Extension of 32-Bit Results').
 ghost use Rattle.std.specs.Prelude.{◌≡◌, ◌^◌, ◌<◌, []};
 ghost use Rattle.svm_model.specs.Widths.{bits};
-ghost use Rattle.svm_model.specs.Operands.{state, part_of, merged, cut, register_value, whole_register, with_register, flags_of, after_flags, at_rip};
-ghost use Rattle.svm_model.specs.FlagRows.{with_carry, with_direction};
+ghost use Rattle.svm_model.specs.Operands.{state, part_of, merged, cut, register_value, whole_register, with_register};
 
-use flag_math::{flags_in, with_flags};
-use svm_model::{Flags, Registers, Width};
+use svm_model::{Registers, Width};
+
+/// The number of RCX.
+pub const RCX: u8 = 1;
+
+/// The number of RSP.
+pub const RSP: u8 = 4;
+
+/// The number of RBP.
+pub const RBP: u8 = 5;
 
 /// The low bits of a value.
 pub fn cut(width: Width, value: u64) -> u64
@@ -64,50 +71,4 @@ pub fn write_register(registers: &mut Registers, width: Width, index: u8, high: 
 {
     let whole = whole_register(registers, index);
     registers.general[index as usize % 16] = merged(width, high, whole, cut(width, value));
-}
-
-/// The status flags.
-pub fn read_flags(registers: &Registers) -> Flags
-    ensures { result ≡ flags_of registers.now }
-{
-    flags_in(registers.rflags)
-}
-
-/// Sets the status flags. All other bits of RFLAGS stay.
-pub fn write_flags(registers: &mut Registers, flags: Flags)
-    ensures { registers.new ≡ (after_flags flags (state registers.old [])).registers }
-{
-    registers.rflags = with_flags(registers.rflags, flags);
-}
-
-/// The next instruction is there.
-pub fn write_rip(registers: &mut Registers, rip: u64)
-    ensures { registers.new ≡ (at_rip rip (state registers.old [])).registers }
-{
-    registers.rip = rip;
-}
-
-/// Sets CF.
-pub fn write_carry(registers: &mut Registers, carry: bool)
-    ensures { registers.new ≡ (with_carry carry (state registers.old [])).registers }
-{
-    let flags = Flags {
-        cf: carry,
-        ..read_flags(registers)
-    };
-    write_flags(registers, flags);
-}
-
-/// DF, bit 10 of RFLAGS.
-const DIRECTION_FLAG: u64 = 1 << 10;
-
-/// Sets DF.
-pub fn write_direction(registers: &mut Registers, direction: bool)
-    ensures { registers.new ≡ (with_direction direction (state registers.old [])).registers }
-{
-    registers.rflags = if direction {
-        registers.rflags | DIRECTION_FLAG
-    } else {
-        registers.rflags & !DIRECTION_FLAG
-    };
 }
