@@ -1,8 +1,12 @@
 pub mod BusLemmas
 pub mod EndLemmas
+pub mod LastLemmas
+pub mod NestedLemmas
+pub mod PausedLemmas
 pub mod PutLemmas
 pub mod RflagsLemmas
 pub mod UserRowLemmas
+pub mod VmcbLemmas
 pub mod WalkLemmas
 pub mod WindowLemmas
 pub mod WorldLemmas
