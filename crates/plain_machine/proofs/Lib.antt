@@ -1,3 +1,4 @@
+pub mod Idle
 pub mod Opening
 pub mod Singles
-pub mod WalkedTurns
+pub mod Turning

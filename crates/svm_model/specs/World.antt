@@ -275,10 +275,13 @@ IsOut call w bus (Some None) = ⊥
 IsOut call w bus (Some (Some id)) = (write : PortWrite) × ((turn_of (Some call) w bus id).denied ≡ Some write)
 
 -- the event hands something to a device or to the output: a feed, or a run whose turn writes to a port by this call
-unfoldable pub HandsOver : ℕ → World → Bus → Event → Type 0
-HandsOver call w bus (Run cpu) = IsOut call (with_timers w) bus (slice_get w.placing cpu.0)
-HandsOver call w bus (Feed device value) = Unit {0}
-HandsOver call w bus _ = ⊥
+unfoldable pub HandsOverOf : ℕ → World → Bus → Event → Type 0
+HandsOverOf call w bus (Run cpu) = IsOut call w bus (slice_get w.placing cpu.0)
+HandsOverOf call w bus (Feed device value) = Unit {0}
+HandsOverOf call w bus _ = ⊥
+
+abbrev pub HandsOver : ℕ → World → Bus → Event → Type 0
+HandsOver call w bus event = HandsOverOf call (with_timers w) bus event
 
 -- the end of a guest, where it was ended
 abbrev pub end_of_guest : Option Guest → Option Ended

@@ -30,11 +30,11 @@ unfolding ran finished
 events-ran bus image script whole =
     omega (arith, run-counted (world_of image) bus (events_of script), starts-at-0 image, whole)
 
--- forty reads at most for each event
-pub reads-ran : (old new : ℕ) (bus : Bus) (image : Image) (script : Script) → length (events_of script) ≡ script.events → new ≤ old + 40 * script.events →
-    new ≤ old + 40 * (ran bus image script).events
+-- 3,262 reads at most for each event
+pub reads-ran : (old new : ℕ) (bus : Bus) (image : Image) (script : Script) → length (events_of script) ≡ script.events → new ≤ old + 3262 * script.events →
+    new ≤ old + 3262 * (ran bus image script).events
 reads-ran old new bus image script whole h =
-    let P : ℕ → Type 0 = λ count. new ≤ old + 40 * count in
+    let P : ℕ → Type 0 = λ count. new ≤ old + 3262 * count in
     subst P (sym (events-ran bus image script whole)) h
 
 -- The bus behind some first events.

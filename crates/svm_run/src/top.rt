@@ -94,8 +94,8 @@ fn run_job<K: Sink, L: Ledger>(
     ensures bus { RanAll result → ⟦<Bus as BusState>⟧.bus bus.new ≡ (ran (⟦<Bus as BusState>⟧.bus bus.old) image.now script.now).bus }
     ensures some { RanSome result → (count : ℕ) × (⟦<Bus as BusState>⟧.bus bus.new ≡ bus_after count (⟦<Bus as BusState>⟧.bus bus.old) image.now script.now) }
     ensures device { HasDeviceCause (⟦<Bus as BusState>⟧.faults bus.old) (⟦<Bus as BusState>⟧.faults bus.new) result }
-    ensures steps { steps.new ≤ steps.old + 40 * (ran (⟦<Bus as BusState>⟧.bus bus.old) image.now script.now).events }
-    ensures most_steps { steps.new ≤ steps.old + 41943040 }
+    ensures steps { steps.new ≤ steps.old + 3262 * (ran (⟦<Bus as BusState>⟧.bus bus.old) image.now script.now).events }
+    ensures most_steps { steps.new ≤ steps.old + 3420454912 }
 {
     let Ok(mut machine) = PlainMachine::open(alloc, image) else {
         return refuse(sink, Status::NoMemory);
@@ -155,10 +155,10 @@ pub fn svm_run<H: Shelf, K: Sink, L: Ledger, M: Ledger>(
         IsBehindSome (⟦<Bus as BusState>⟧.bus bus.old) (⟦<Bus as BusState>⟧.bus bus.new) (H.files shelf.old) (map (λ w. w.now) words.now)) }
     ensures device { HasDeviceCause (⟦<Bus as BusState>⟧.faults bus.old) (⟦<Bus as BusState>⟧.faults bus.new) result }
 
-    // Ten reads at most are counted for each event, of which there are at most 1,048,576.
+    // At most 3,262 reads are counted for each event, of which there are at most 1,048,576.
     ensures steps { IfSome (H.files shelf.old) (λ _.
-        steps.new ≤ steps.old + 40 * (outcome_of (⟦<Bus as BusState>⟧.bus bus.old) (H.files shelf.old) (map (λ w. w.now) words.now)).events) }
-    ensures most_steps { steps.new ≤ steps.old + 41943040 }
+        steps.new ≤ steps.old + 3262 * (outcome_of (⟦<Bus as BusState>⟧.bus bus.old) (H.files shelf.old) (map (λ w. w.now) words.now)).events) }
+    ensures most_steps { steps.new ≤ steps.old + 3420454912 }
     ensures entries { entries.new ≡ entries.old }
 {
     let Some((image, script)) = names(words) else {

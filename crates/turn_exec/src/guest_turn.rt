@@ -3,6 +3,7 @@ ghost use Rattle.std.specs.Prelude.{◌≡◌, ℕ, ◌+◌, ◌*◌, ◌%◌, �
 ghost use Rattle.svm_model.specs.Bytes.{IsWithin, SameOutside, guest_of};
 ghost use Rattle.svm_model.specs.Course.{Course, frames_after, heard, is_refused, numbered};
 ghost use Rattle.svm_model.specs.declared.names.RunEnd.{RunEnd as RunEndRecord};
+ghost use Rattle.svm_model.specs.declared.page_tables.Outer.TheVariants.{Direct};
 ghost use Rattle.svm_model.specs.declared.turns.Translated.{Translated as TranslatedRecord};
 ghost use Rattle.turn_exec.specs.Follows.{AreInside, IsInside};
 ghost use Rattle.turn_exec.specs.Plays.{board_with, CallsFrom, Plays, refused_at, SameNames};
@@ -17,7 +18,7 @@ use host_memory::{GuestWindow, HostMemory, Steps};
 use port_bus::Ports;
 use std::sync::ledger::Ledger;
 use svm_model::{
-    ApicAnswer, Flush, NoMemory, Outer, Part, PortWrite, RunEnd, Space, Translated, Translation,
+    ApicAnswer, Flush, NoMemory, Part, PortWrite, RunEnd, Space, Translated, Translation,
 };
 
 /// What a turn reaches of its guest: the parts that it has translated, and where they are; and its outward calls, of which
@@ -40,7 +41,7 @@ pub struct GuestTurn<'t, 'm, 'b, 'a, 's, T: Translator, B: Ports, A: Apics, L: L
     pub ghost pages: { window.size % 4096 ≡ 0 },
     pub ghost some: { 4096 ≤ window.size },
     pub ghost inside: { AreInside window.size frames.items },
-    pub ghost direct: { space.outer ≡ Outer.Direct },
+    pub ghost direct: { space.outer ≡ Direct },
     /// Where no notice is refused, a refusal is that of a write to a port.
     pub ghost out: { T.refuses ≡ false → is_some refused ≡ is_some denied },
     /// A call that is granted is allowed a read at least.
@@ -108,7 +109,7 @@ fn numbered(number: u8, found: Translated) -> Translation
 impl<'t, 'm, 'b, 'a, 's, T: Translator, B: Ports, A: Apics, L: Ledger> Reach for GuestTurn<'t, 'm, 'b, 'a, 's, T, B, A, L> {
     ghost plays = { λ m course last vcpu stepped.
         SameNames m.translator.ghost_name last.translator.ghost_name m.memory.ghost_name last.memory.ghost_name m.bus.ghost_name last.bus.ghost_name m.apics.ghost_name last.apics.ghost_name m.steps.ghost_name last.steps.ghost_name
-        × ((last.steps.now + m.reads ≤ m.steps.now + last.reads)
+        × (((last.steps.now + m.reads ≤ m.steps.now + last.reads) × (m.steps.now ≤ last.steps.now))
         × (CallsFrom m.refused m.calls (B.faults m.bus.now) last.refused last.calls (B.faults last.bus.now)
         × Plays T.stands T.copies T.rule m.space m.window m.translator.now m.memory.now.bytes (board_with (B.bus m.bus.now) (A.apic m.apics.now) (A.sent m.apics.now) m.calls m.denied) m.frames.items course
         last.translator.now last.memory.now.bytes (board_with (B.bus last.bus.now) (A.apic last.apics.now) (A.sent last.apics.now) last.calls last.denied) last.refused vcpu stepped)) };

@@ -59,6 +59,7 @@ pub fn take_turn<T: Translator, B: Ports, A: Apics, C: Under, R: SystemRows, L: 
     ensures out { T.refuses ≡ false → is_some result.refused ≡ is_some result.denied }
     ensures blamed { IsBlamed result.refused (B.faults bus.old) (B.faults bus.new) }
     ensures steps { steps.new ≤ steps.old + 3262 }
+    ensures later { steps.old ≤ steps.new }
 {
     let mut reach = GuestTurn {
         translator,
