@@ -2,20 +2,26 @@
 use Rattle.std.proofs.Common.{◌≡◌, ◌∙◌, ℕ, Bool, true, false, List, ◌∷◌, Option, Some, None, refl, ap, sym, subst}
 use Rattle.std.specs.Prelude.{◌==◌, ◌&&◌, not, if◌then◌else◌}
 use Rattle.std.proofs.lemmas.Bool.Decides.{Decides-eqb}
-use Rattle.svm_model.specs.Course.{Told, Accessed, told_of, walked_over, passed_over}
+use Rattle.svm_model.specs.Course.{Told, Accessed, told_of}
+use Rattle.svm_model.specs.NestedPaging.{as_nested, walked_over}
 use Rattle.svm_model.specs.PageTables.{walked}
 use Rattle.svm_model.specs.declared.names.Access.{Access}
+use Rattle.svm_model.specs.declared.names.Frame.{Frame}
 use Rattle.svm_model.specs.declared.names.Kind.{Kind}
 use Rattle.svm_model.specs.declared.names.Kind.TheVariants.{Read, Write, Fetch}
 use Rattle.svm_model.specs.declared.page_tables.Leaf.{Leaf as FoundLeaf}
+use Rattle.svm_model.specs.declared.page_tables.Nested.{Nested}
+use Rattle.svm_model.specs.declared.page_tables.Nested.TheVariants.{Leaf, Bar, PageFault, NestedFault, Ended}
+use Rattle.svm_model.specs.declared.page_tables.Outer.{Outer}
+use Rattle.svm_model.specs.declared.page_tables.Outer.TheVariants.{Direct, Tables}
 use Rattle.svm_model.specs.declared.page_tables.PageSize.{PageSize}
 use Rattle.svm_model.specs.declared.page_tables.PageSize.TheVariants.{Small, Large, Huge}
+use Rattle.svm_model.specs.declared.page_tables.Paging.{Paging}
 use Rattle.svm_model.specs.declared.page_tables.Pass.{Pass}
 use Rattle.svm_model.specs.declared.page_tables.Walked.{Walked}
-use Rattle.svm_model.specs.declared.page_tables.Walked.TheVariants.{Leaf, PageFault, Ended}
-use Rattle.svm_model.specs.declared.turns.Outer.{Outer}
-use Rattle.svm_model.specs.declared.turns.Outer.TheVariants.{Direct}
+use Rattle.svm_model.specs.declared.page_tables.Walked.TheVariants as walk
 use Rattle.svm_model.specs.declared.turns.Space.{Space}
+use Rattle.svm_model.proofs.NestedLemmas.{SaysUnchanged, unchanged-nested}
 use Rattle.svm_model.proofs.WalkLemmas.{unchanged-walked}
 use Rattle.one_copy.specs.Recalls.{is_bool, is_kind, is_same, frames_of, is_leaf, leaf_in, recalled, finds, agrees, keeps, leaf_for, Stands}
 use Rattle.one_copy.specs.declared.kept.Kept.{Kept}
@@ -106,12 +112,22 @@ leaf_is leaf other e =
     fields_are leaf.frame.0 other.frame.0 leaf.size other.size leaf.global leaf.writable leaf.user leaf.executable leaf.dirty other.global other.writable other.user other.executable other.dirty
     frame size global writable user executable dirty
 
-finds_is : (leaf : FoundLeaf) (walked : Walked) → finds leaf walked ≡ true → walked ≡ Leaf leaf false
-finds_is leaf (Leaf found changed) e =
-    let same = leaf_is leaf found (and_first _ _ e) in
-    let kept = not_true changed (and_next (is_leaf leaf found) _ e) in
-    cc
+frame_is : (f g : Frame) → f.0 ≡ g.0 → f ≡ g
+frame_is f g e = ap (λ (n : ℕ). record { 0 = n }) e
+
+same_answer : (leaf found : FoundLeaf) (f g : Frame) (changed : Bool) → leaf ≡ found → f ≡ g → changed ≡ false → Leaf found g changed ≡ Leaf leaf f false
+same_answer leaf found f g changed e h k = cc
+
+finds_is : (leaf : FoundLeaf) (answer : Nested) → finds leaf answer ≡ true → answer ≡ Leaf leaf leaf.frame false
+finds_is leaf (Leaf found guest_frame changed) e =
+    let to_frame = and_first (is_leaf leaf found && (leaf.frame.0 == guest_frame.0)) _ e in
+    let same = leaf_is leaf found (and_first _ _ to_frame) in
+    let frame = frame_is leaf.frame guest_frame (number_is _ _ (and_next (is_leaf leaf found) _ to_frame)) in
+    let kept = not_true changed (and_next (is_leaf leaf found && (leaf.frame.0 == guest_frame.0)) _ e) in
+    same_answer leaf found leaf.frame guest_frame changed same frame kept
+finds_is leaf (Bar found changed) e = absurd (cc)
 finds_is leaf (PageFault code) e = absurd (cc)
+finds_is leaf (NestedFault code address) e = absurd (cc)
 finds_is leaf (Ended outside) e = absurd (cc)
 
 -- what a choice gives says which way it went
@@ -133,35 +149,42 @@ recalled_kept (Some kept) asid access leaf history e stands =
     (subst (λ (x : Access). recalled history asid x ≡ Some kept.leaf) same.1 (subst (λ (x : ℕ). recalled history x kept.access ≡ Some kept.leaf) same.0 stands))
 
 -- so the walk finds it
-found_again : (kept : Option Kept) (asid : ℕ) (access : Access) (leaf : FoundLeaf) (history : List Told) (walked : Walked) (passed : List Pass)
-    → leaf_for kept asid access ≡ Some leaf → Stands kept history → keeps history (Accessed asid access walked passed) ≡ true → walked ≡ Leaf leaf false
+found_again : (kept : Option Kept) (asid : ℕ) (write_protect : Bool) (access : Access) (leaf : FoundLeaf) (history : List Told) (answer : Nested) (passed : List Pass)
+    → leaf_for kept asid access ≡ Some leaf → Stands kept history → keeps history (Accessed asid write_protect access answer passed) ≡ true → answer ≡ Leaf leaf leaf.frame false
 unfolding keeps
-found_again kept asid access leaf history walked passed e stands keep =
-    finds_is leaf walked (subst (λ (o : Option FoundLeaf). agrees o walked ≡ true) (recalled_kept kept asid access leaf history e stands) keep)
+found_again kept asid write_protect access leaf history answer passed e stands keep =
+    finds_is leaf answer (subst (λ (o : Option FoundLeaf). agrees o answer ≡ true) (recalled_kept kept asid access leaf history e stands) keep)
 
 -- and it is recalled again
-stands_again : (kept : Option Kept) (asid : ℕ) (access : Access) (leaf : FoundLeaf) (history : List Told) (walked : Walked) (passed : List Pass)
-    → leaf_for kept asid access ≡ Some leaf → walked ≡ Leaf leaf false → Stands kept (Accessed asid access walked passed ∷ history)
-stands_again None asid access leaf history walked passed e found = absurd (cc)
-stands_again (Some kept) asid access leaf history walked passed e found =
+stands_again : (kept : Option Kept) (asid : ℕ) (write_protect : Bool) (access : Access) (leaf : FoundLeaf) (history : List Told) (answer : Nested) (passed : List Pass)
+    → leaf_for kept asid access ≡ Some leaf → answer ≡ Leaf leaf leaf.frame false → Stands kept (Accessed asid write_protect access answer passed ∷ history)
+stands_again None asid write_protect access leaf history answer passed e found = absurd (cc)
+stands_again (Some kept) asid write_protect access leaf history answer passed e found =
     let known = some_if (is_same kept.asid kept.access asid access) kept.leaf leaf e in
     then_if _ _ _ _ known.0 (ap leaf_in found ∙ ap Some (sym known.1))
 
-unchanged-over : (outer : Outer) (space : Space) (memory : List ℕ) (access : Access) (leaf : FoundLeaf) → (walked_over outer memory space.paging access).0 ≡ Leaf leaf false → (walked_over outer memory space.paging access).1 ≡ memory
-unchanged-over Direct space memory access leaf e = unchanged-walked memory space.paging access leaf e
+as_walked : (w : Walked) (leaf : FoundLeaf) (frame : Frame) → as_nested w ≡ Leaf leaf frame false → w ≡ walk.Leaf leaf false
+as_walked (walk.Leaf found changed) leaf frame e = cc
+as_walked (walk.PageFault code) leaf frame e = absurd (cc)
+as_walked (walk.Ended outside) leaf frame e = absurd (cc)
+
+unchanged-over : (outer : Outer) (memory : List ℕ) (paging : Paging) (access : Access) (leaf : FoundLeaf) → (walked_over outer memory paging access).answer ≡ Leaf leaf leaf.frame false → (walked_over outer memory paging access).memory ≡ memory
+unchanged-over Direct memory paging access leaf e = unchanged-walked memory paging access leaf (as_walked (walked memory paging access).0 leaf leaf.frame e)
+unchanged-over (Tables n) memory paging access leaf e = unchanged-nested n memory paging access (subst SaysUnchanged (sym e) refl)
 
 -- a hit is the answer of the walk, which leaves memory as it was
 pub record Hits (kept : Option Kept) (space : Space) (memory : List ℕ) (access : Access) (history : List Told) (leaf : FoundLeaf) : Type 0 where
-  pub answer : Leaf leaf false ≡ (walked_over space.outer memory space.paging access).0
-  pub memory_is : memory ≡ (walked_over space.outer memory space.paging access).1
+  pub answer : Leaf leaf leaf.frame false ≡ (walked_over space.outer memory space.paging access).answer
+  pub memory_is : memory ≡ (walked_over space.outer memory space.paging access).memory
   pub stands_after : Stands kept (told_of space memory access ∷ history)
 
 pub hit : (kept : Option Kept) (space : Space) (memory : List ℕ) (access : Access) (history : List Told) (leaf : FoundLeaf)
     → leaf_for kept space.asid access ≡ Some leaf → Stands kept history → keeps history (told_of space memory access) ≡ true → Hits kept space memory access history leaf
 hit kept space memory access history leaf e stands keep =
-    let found = found_again kept space.asid access leaf history (walked_over space.outer memory space.paging access).0 (passed_over space.outer memory space.paging access) e stands keep in
+    let reached = walked_over space.outer memory space.paging access in
+    let found = found_again kept space.asid space.paging.write_protect access leaf history reached.answer reached.passes e stands keep in
     record {
       answer = sym found;
-      memory_is = sym (unchanged-over space.outer space memory access leaf found);
-      stands_after = stands_again kept space.asid access leaf history _ (passed_over space.outer memory space.paging access) e found;
+      memory_is = sym (unchanged-over space.outer memory space.paging access leaf found);
+      stands_after = stands_again kept space.asid space.paging.write_protect access leaf history reached.answer reached.passes e found;
     }

@@ -1,6 +1,6 @@
 -- What a history recalls of an access, and when a copy of that may serve.
 use Rattle.std.specs.Prelude.{◌≡◌, ℕ, ◌==◌, ◌&&◌, ◌||◌, not, Bool, true, false, if◌then◌else◌, List, [], ◌∷◌, Option, Some, None}
-use Rattle.svm_model.specs.Course.{Told, Accessed}
+use Rattle.svm_model.specs.Course.{Told, Accessed, Flushed, Found, Left}
 use Rattle.svm_model.specs.PageTables.{is_write, is_fetch}
 use Rattle.svm_model.specs.declared.names.Access.{Access}
 use Rattle.svm_model.specs.declared.names.Kind.{Kind}
@@ -8,8 +8,8 @@ use Rattle.svm_model.specs.declared.names.Kind.TheVariants.{Read, Write, Fetch}
 use Rattle.svm_model.specs.declared.page_tables.Leaf.{Leaf as FoundLeaf}
 use Rattle.svm_model.specs.declared.page_tables.PageSize.{PageSize}
 use Rattle.svm_model.specs.declared.page_tables.PageSize.TheVariants.{Small, Large, Huge}
-use Rattle.svm_model.specs.declared.page_tables.Walked.{Walked}
-use Rattle.svm_model.specs.declared.page_tables.Walked.TheVariants.{Leaf, PageFault, Ended}
+use Rattle.svm_model.specs.declared.page_tables.Nested.{Nested}
+use Rattle.svm_model.specs.declared.page_tables.Nested.TheVariants.{Leaf, Bar, PageFault, NestedFault, Ended}
 use Rattle.one_copy.specs.declared.kept.Kept.{Kept}
 
 -- both are true, or both are false
@@ -41,31 +41,41 @@ is_leaf leaf other =
     && is_bool leaf.writable other.writable && is_bool leaf.user other.user && is_bool leaf.executable other.executable && is_bool leaf.dirty other.dirty
 
 -- the leaf that a walk found, if it found one
-abbrev pub leaf_in : Walked → Option FoundLeaf
-leaf_in (Leaf leaf changed) = Some leaf
+abbrev pub leaf_in : Nested → Option FoundLeaf
+leaf_in (Leaf leaf guest_frame changed) = Some leaf
+leaf_in (Bar leaf changed) = None
 leaf_in (PageFault code) = None
+leaf_in (NestedFault code address) = None
 leaf_in (Ended outside) = None
 
--- the leaf that was found when the access was last told of; none where it was not told of, or found none then
+-- the leaf that was found when the access was last told of; none where it was not told of since a flush, or found none then
 abbrev pub recalled : List Told → ℕ → Access → Option FoundLeaf
 recalled [] asid access = None
-recalled (Accessed told_asid told walked passed ∷ history) asid access =
-    if is_same asid access told_asid told then leaf_in walked else recalled history asid access
+recalled (Accessed told_asid write_protect told answer passed ∷ history) asid access =
+    if is_same asid access told_asid told then leaf_in answer else recalled history asid access
+recalled (Flushed flush ∷ history) asid access = None
+recalled (Found vmcb entering found ∷ history) asid access = recalled history asid access
+recalled (Left vmcb stored ∷ history) asid access = recalled history asid access
 
 -- the walk finds this very leaf, and sets no bit
-abbrev pub finds : FoundLeaf → Walked → Bool
-finds leaf (Leaf found changed) = is_leaf leaf found && not changed
+abbrev pub finds : FoundLeaf → Nested → Bool
+finds leaf (Leaf found guest_frame changed) = is_leaf leaf found && (leaf.frame.0 == guest_frame.0) && not changed
+finds leaf (Bar found changed) = false
 finds leaf (PageFault code) = false
+finds leaf (NestedFault code address) = false
 finds leaf (Ended outside) = false
 
 -- a leaf that is recalled is found again
-abbrev pub agrees : Option FoundLeaf → Walked → Bool
-agrees None walked = true
-agrees (Some leaf) walked = finds leaf walked
+abbrev pub agrees : Option FoundLeaf → Nested → Bool
+agrees None answer = true
+agrees (Some leaf) answer = finds leaf answer
 
 -- The rule: an access for which a leaf is recalled finds it again, and sets no bit.
 unfoldable pub keeps : List Told → Told → Bool
-keeps history (Accessed asid access walked passed) = agrees (recalled history asid access) walked
+keeps history (Accessed asid write_protect access answer passed) = agrees (recalled history asid access) answer
+keeps history (Flushed flush) = true
+keeps history (Found vmcb entering found) = true
+keeps history (Left vmcb stored) = true
 
 -- the kept leaf, where it was found for this access
 abbrev pub leaf_for : Option Kept → ℕ → Access → Option FoundLeaf

@@ -8,7 +8,9 @@ use std::alloc::{AllocError, Global};
 use std::marker::Brand;
 use std::process::Abort;
 use std::sync::ledger::{Blank, Ledger};
-use svm_model::{Access, Frame, Kind, Leaf, LinearPage, Outer, PageSize, Paging, Space, Walked};
+use svm_model::{
+    Access, Flush, Frame, Kind, Leaf, LinearPage, Nested, Outer, PageSize, Paging, Space,
+};
 use turn_exec::Translator;
 
 /// One page, which is the table of each level.
@@ -41,7 +43,7 @@ const SPACE: Space = Space {
 
 const OTHER_SPACE: Space = Space { asid: 2, ..SPACE };
 
-const FOUND: Walked = Walked::Leaf {
+const FOUND: Nested = Nested::Leaf {
     leaf: Leaf {
         frame: Frame(0),
         size: PageSize::Small,
@@ -51,6 +53,7 @@ const FOUND: Walked = Walked::Leaf {
         executable: true,
         dirty: true,
     },
+    guest_frame: Frame(0),
     changed: false,
 };
 
@@ -70,19 +73,19 @@ fn serve<L: Ledger, R: Abort>(rt: &R, alloc: Global, blank: Blank) -> Result<(),
     let mut copy = OneCopy::new();
     put_entry(&mut memory, 0x67);
     let first = copy.translate(&mut memory, WINDOW, &SPACE, READ, &mut steps);
-    assert_eq!(rt; first, FOUND);
+    assert_eq!(rt; first, Ok(FOUND));
     put_entry(&mut memory, 0);
     let again = copy.translate(&mut memory, WINDOW, &SPACE, READ, &mut steps);
-    assert_eq!(rt; again, FOUND);
+    assert_eq!(rt; again, Ok(FOUND));
     let write = copy.translate(&mut memory, WINDOW, &SPACE, WRITE, &mut steps);
-    assert_eq!(rt; write, Walked::PageFault { code: 2 });
+    assert_eq!(rt; write, Ok(Nested::PageFault { code: 2 }));
     let other = copy.translate(&mut memory, WINDOW, &OTHER_SPACE, READ, &mut steps);
-    assert_eq!(rt; other, Walked::PageFault { code: 0 });
+    assert_eq!(rt; other, Ok(Nested::PageFault { code: 0 }));
     let kept = copy.translate(&mut memory, WINDOW, &SPACE, READ, &mut steps);
-    assert_eq!(rt; kept, FOUND);
-    copy.drop_copy();
+    assert_eq!(rt; kept, Ok(FOUND));
+    let _ = copy.flush(Flush::All);
     let dropped = copy.translate(&mut memory, WINDOW, &SPACE, READ, &mut steps);
-    assert_eq!(rt; dropped, Walked::PageFault { code: 0 });
+    assert_eq!(rt; dropped, Ok(Nested::PageFault { code: 0 }));
     Ok(())
 }
 

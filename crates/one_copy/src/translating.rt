@@ -1,15 +1,16 @@
 // The translator that keeps one copy.
-ghost use Rattle.std.specs.Prelude.{◌≡◌, List, ◌∷◌, None, true};
+ghost use Rattle.std.specs.Prelude.{◌≡◌, List, ◌∷◌, Bool, None, true, false};
 ghost use Rattle.svm_model.specs.Course.{Told, Accessed};
+ghost use Rattle.svm_model.specs.NestedPaging.{as_nested};
 ghost use Rattle.svm_model.specs.PageTables.{HasFrame};
 ghost use Rattle.svm_model.specs.declared.page_tables.Pass.{Pass};
 ghost use Rattle.one_copy.specs.Recalls.{is_kind, is_same as same_access, leaf_for, keeps, Stands};
 
 use crate::kept::Kept;
 use host_memory::{GuestWindow, HostMemory, Steps};
-use page_walk::walk;
+use page_walk::{answer_of, walk};
 use std::sync::ledger::Ledger;
-use svm_model::{Access, Kind, Leaf, Outer, Space, Walked};
+use svm_model::{Access, Flush, Kind, Leaf, Nested, NoMemory, Space, Walked};
 use turn_exec::Translator;
 
 /// The way to translate that keeps one copy: the leaf of the last walk that found one.
@@ -53,8 +54,8 @@ fn find(kept: Option<Kept>, asid: u16, access: Access) -> Option<Leaf>
 /// Keeps the leaf that a walk found, if it found one, in the place of what was kept.
 fn refill(kept: &mut Option<Kept>, asid: u16, access: Access, walked: Walked)
     requires frame { HasFrame walked }
-    ensures { (history : List Told) (passed : List Pass) → leaf_for kept.old asid access ≡ None → Stands kept.old history →
-        Stands kept.new (Accessed asid access walked passed ∷ history) }
+    ensures { (history : List Told) (write_protect : Bool) (passed : List Pass) → leaf_for kept.old asid access ≡ None → Stands kept.old history →
+        Stands kept.new (Accessed asid write_protect access (as_nested walked) passed ∷ history) }
 {
     if let Walked::Leaf { leaf, .. } = walked {
         *kept = Some(Kept { asid, access, leaf });
@@ -68,6 +69,8 @@ impl Translator for OneCopy {
 
     ghost rule = { keeps };
 
+    ghost refuses = { false };
+
     fn translate<L: Ledger>(
         &mut self,
         memory: &mut HostMemory,
@@ -75,18 +78,22 @@ impl Translator for OneCopy {
         space: &Space,
         access: Access,
         steps: &mut Steps<L>,
-    ) -> Walked {
+    ) -> Result<Nested, NoMemory> {
         if let Some(leaf) = find(self.kept, space.asid, access) {
-            return Walked::Leaf {
+            return Ok(Nested::Leaf {
                 leaf,
+                guest_frame: leaf.frame,
                 changed: false,
-            };
+            });
         }
-        let walked = match space.outer {
-            Outer::Direct => walk(memory, window, &space.paging, access, steps),
-        };
+        let walked = walk(memory, window, &space.paging, access, steps);
         refill(&mut self.kept, space.asid, access, walked);
-        walked
+        Ok(answer_of(walked))
+    }
+
+    fn flush(&mut self, _flush: Flush) -> Result<(), NoMemory> {
+        self.drop_copy();
+        Ok(())
     }
 }
 

@@ -1,36 +1,49 @@
 // A turn that starts with nothing kept.
-ghost use Rattle.std.specs.Prelude.{◌≡◌, ◌+◌, ◌%◌, ◌≤◌, [], true, is_ok};
+ghost use Rattle.std.specs.Prelude.{◌≡◌, ◌+◌, ◌%◌, ◌≤◌, [], None, true};
+ghost use Rattle.port_bus.specs.Causes.{NoneFell};
 ghost use Rattle.svm_model.specs.Bytes.{IsWithin, SameOutside, guest_of};
-ghost use Rattle.svm_model.specs.Instruction.{instruction as instruction_course};
-ghost use Rattle.turn_exec.specs.Follows.{Ensues, played};
+ghost use Rattle.svm_model.specs.Course.{play};
+ghost use Rattle.svm_model.specs.Work.{turn_course};
+ghost use Rattle.turn_exec.specs.Follows.{Ensues};
+ghost use Rattle.turn_exec.specs.Plays.{board_with, IsBlamed, refused_at};
 ghost use Rattle.one_copy.specs.Recalls.{keeps};
 
 use crate::translating::OneCopy;
 use host_memory::{GuestWindow, HostMemory, Steps};
-use port_bus::{Bus, BusState};
+use port_bus::Ports;
 use std::sync::ledger::Ledger;
-use svm_model::{Facts, RunEnd, Space, Stepped};
-use turn_exec::{Translator, Vcpu, instruction};
+use svm_model::{Facts, Outer, Space, Vcpu};
+use turn_exec::{Alone, Apics, SystemRows, Translator, TurnEnd};
 
-/// The turn of the instruction at RIP, for which the copy is dropped first. At most forty reads are counted. Where the rule
-/// is kept within the turn, memory, the bus, the vcpu and the answer are those of the turn that walks for each access.
-pub fn take_turn<L: Ledger>(
+/// The turn of a vcpu in L1, for which the copy is dropped first, where its APIC gives no vector. At most 3,262 reads are
+/// counted. Where the rule is kept within the turn, memory, what stands about the vcpu, the vcpu and the answer are those of
+/// the turn that walks for each access.
+pub fn take_turn<B: Ports, A: Apics, R: SystemRows, L: Ledger>(
     copy: &mut OneCopy,
     memory: &mut HostMemory,
     window: GuestWindow,
     space: &Space,
-    bus: &mut Bus,
-    facts: Facts,
+    bus: &mut B,
+    apics: &mut A,
+    facts: &Facts,
+    rows: &R,
     vcpu: &mut Vcpu,
     steps: &mut Steps<L>,
-) -> Result<Stepped, RunEnd>
+) -> TurnEnd
     requires window { IsWithin window memory.old.bytes }
     requires pages { window.size % 4096 ≡ 0 }
-    ensures follows { Ensues (⟦<OneCopy as Translator>⟧.stands) true keeps (played space.now (is_ok result) (⟦<Bus as BusState>⟧.bus bus.old) (guest_of window memory.old.bytes) [] (instruction_course facts vcpu.old))
-        [] copy.new (guest_of window memory.new.bytes) (⟦<Bus as BusState>⟧.bus bus.new) vcpu.new result }
+    requires some { 4096 ≤ window.size }
+    requires direct { space.now.outer ≡ Outer.Direct }
+    ensures follows { Ensues (⟦<OneCopy as Translator>⟧.stands) true keeps (play (record { space = space.now; refused = refused_at result.refused result.calls }) (board_with (B.bus bus.old) (A.apic apics.old) (A.sent apics.old) 0 None) (guest_of window memory.old.bytes) []
+        (turn_course None facts.now vcpu.old None))
+        [] copy.new (guest_of window memory.new.bytes) (board_with (B.bus bus.new) (A.apic apics.new) (A.sent apics.new) result.calls result.denied) vcpu.new result.stepped }
     ensures others { SameOutside window memory.old.bytes memory.new.bytes }
-    ensures steps { steps.new ≤ steps.old + 40 }
+    ensures none_fell { NoneFell (B.faults bus.old) (B.faults bus.new) }
+    ensures blamed { IsBlamed result.refused (B.faults bus.old) (B.faults bus.new) }
+    ensures steps { steps.new ≤ steps.old + 3262 }
 {
     copy.drop_copy();
-    instruction(copy, memory, window, space, bus, facts, vcpu, steps)
+    turn_exec::take_turn(
+        copy, memory, window, space, bus, apics, &Alone, facts, rows, vcpu, None, steps,
+    )
 }

@@ -13,8 +13,8 @@ mod path;
 mod walks;
 
 pub use bits::EntryBits;
-pub use svm_model::{Entry, Leaf, PageSize, Paging, Walked};
-pub use walks::walk;
+pub use svm_model::{Entry, Leaf, Nested, PageSize, Paging, Walked};
+pub use walks::{answer_of, walk};
 
 #[cfg(test)]
 mod tests;

@@ -3,6 +3,7 @@ ghost use Rattle.std.specs.Prelude.{◌≡◌, ℕ, ◌+◌, ◌≤◌, List, Al
 ghost use Rattle.std.specs.Int.{w64, to_le_bytes};
 ghost use Rattle.svm_model.specs.Bytes.{IsWithin, SameOutside, guest_of, put_at};
 ghost use Rattle.svm_model.specs.Bits.{bits_where};
+ghost use Rattle.svm_model.specs.NestedPaging.{as_nested};
 ghost use Rattle.svm_model.specs.PageTables.{accessed, dirty, is_write, marked, HasFrame, walked};
 
 use crate::bits::EntryBits;
@@ -11,7 +12,7 @@ use crate::path::{is_allowed, is_new, leaf_at, path_to};
 use bitflags::Flags;
 use host_memory::{GuestWindow, HostMemory, Steps};
 use std::sync::ledger::Ledger;
-use svm_model::{Access, Entry, Paging, Walked};
+use svm_model::{Access, Entry, Nested, Paging, Walked};
 
 #[tactic(auto, using(svm_model::proofs::WindowLemmas::windows))]
 fn write_entry(memory: &mut HostMemory, window: GuestWindow, at: u64, bits: EntryBits)
@@ -101,4 +102,19 @@ pub fn walk<L: Ledger>(
         mark(memory, window, access, &path);
     }
     Walked::Leaf { leaf, changed }
+}
+
+/// What a walk answers where nothing stands between its tables' addresses and memory: the leaf's frame is the page itself.
+pub fn answer_of(walked: Walked) -> Nested
+    ensures { result ≡ as_nested walked }
+{
+    match walked {
+        Walked::Leaf { leaf, changed } => Nested::Leaf {
+            leaf,
+            guest_frame: leaf.frame,
+            changed,
+        },
+        Walked::PageFault { code } => Nested::PageFault { code },
+        Walked::Ended(outside) => Nested::Ended(outside),
+    }
 }

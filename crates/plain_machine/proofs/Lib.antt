@@ -1,4 +1,5 @@
+pub mod Idle
 pub mod Opening
 pub mod Singles
-pub mod WalkedTurns
+pub mod Turning
 pub mod WellFormed

@@ -2,7 +2,7 @@
 use Rattle.std.proofs.Common.{◌≡◌, ◌∙◌, ℕ, ◌+◌, ◌*◌, ◌≤◌, ◌<◌, ◌==◌, ◌&&◌, Bool, true, false, List, [], ◌∷◌, All, None, length, ap, sym, refl, arith, slice_index_or, subst}
 use Rattle.std.proofs.lemmas.Bool.Decides.{nat_tests}
 use Rattle.svm_model.specs.Image.{Image, ImageGuest, ImageSegment, IsLawfulGuest}
-use Rattle.svm_model.specs.World.{world_of, first_guest, first_vcpu, is_offered, is_offered_guest, is_offered_vcpu}
+use Rattle.svm_model.specs.World.{world_of, first_apics, first_guest, first_vcpu, is_offered, is_offered_guest, is_offered_vcpu}
 use Rattle.svm_model.specs.declared.register_file.Registers.{Registers}
 use Rattle.plain_machine.specs.Single.{single_world}
 
@@ -24,8 +24,8 @@ equal : (n : ℕ) → (n == 1) ≡ true → n ≡ 1
 equal n e = grind (arith, nat_tests)
 
 pub opened : (image : Image) (g : ImageGuest) (r : Registers) (memory : List ℕ) → is_offered image ≡ true → g ≡ slice_index_or image.guests 0 g → r ≡ slice_index_or g.vcpus 0 r →
-    memory ≡ (first_guest g).memory → single_world image.version image.features memory None (first_vcpu r) None 0 ≡ world_of image
-unfolding world_of
+    memory ≡ (first_guest g).memory → single_world image.version image.features memory None (first_vcpu r) 0 None 0 ≡ world_of image
+unfolding world_of first_apics
 opened image g r memory h e f m =
     let parts = both (image.cpus == 1) (is_offered_guest image.guests) h in
     let one : image.cpus ≡ 1 = equal image.cpus parts.0 in

@@ -7,8 +7,10 @@
 //! effect of the plain event, with a bound on counted reads.
 #![tactic(auto)]
 
+mod idle_apic;
 mod loading;
 mod machine;
+mod system_rows;
 mod walking;
 
 pub use machine::PlainMachine;

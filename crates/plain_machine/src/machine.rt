@@ -2,12 +2,14 @@
 ghost use Rattle.std.specs.Prelude.{◌≡◌, ℕ, ◌+◌, ◌*◌, ◌%◌, ◌<◌, ◌≤◌, Bool, true, false, Some, None, Err, List, [], ◌∷◌, length, is_ok, is_err, OnOk, OnErr, IfOk, IfErr, IfSome, IsTrue, slice_get, drop, take};
 ghost use Rattle.std.specs.Option.{option_map};
 ghost use Rattle.svm_model.specs.Bytes.{IsWithin, guest_of, byte_at};
+ghost use Rattle.svm_model.specs.Guest.{level_in};
 ghost use Rattle.svm_model.specs.Image.{Image as ImageRecord, IsLawfulImage, IsLawfulGuest};
-ghost use Rattle.svm_model.specs.World.{World, world_of, first_guest, plain_event, plain_turn, turn_of, placed, next_event, reached, world_shape, image_shape, is_offered, EndsStay, HandsOver, IsNamed, IsVcpu, IsWellFormed};
+ghost use Rattle.svm_model.specs.World.{world_of, first_guest, first_vcpu, end_by, event_of, plain_event, plain_turn, turn_of, placed, changed_guest, guest_with_irq, guest_with_nmi, next_event, reached, reached_of, with_timers, world_shape, image_shape, is_offered, EndsStay, HandsOver, HandsOverOf, IsNamed, IsOut, IsVcpu, IsWellFormed};
 ghost use Rattle.port_bus.specs.Causes.{Blames, NoneFell};
-ghost use Rattle.turn_exec.specs.Follows.{WritesOne};
 ghost use Rattle.plain_machine.specs.Single.{first_id, vcpu_in, guest_in, single_world};
+ghost use Rattle.plain_machine.specs.Turning.{facts_in};
 
+use crate::idle_apic::IdleApic;
 use crate::loading::load_segments;
 use crate::walking::take_turn;
 use host_memory::{GuestWindow, HostMemory, OutsideMemory, Steps};
@@ -16,8 +18,7 @@ use port_bus::{Bus, BusState};
 use std::alloc::{AllocError, Global};
 use std::marker::Model;
 use std::sync::ledger::Ledger;
-use svm_model::{Facts, RunEnd, Stepped};
-use turn_exec::Vcpu;
+use svm_model::{Facts, RunEnd, Stepped, Vcpu};
 use vm_names::{CpuId, Effect, Ended, Event, GuestId, NoMemory, Registers, VcpuId};
 
 /// The plain machine. In clauses it is the world that it runs, and whether it is stopped. The bus of port devices stands
@@ -29,6 +30,7 @@ pub struct PlainMachine {
     memory: HostMemory,
     window: GuestWindow,
     vcpu: Vcpu,
+    apic: IdleApic,
     ended: Option<Ended>,
     placed: Option<VcpuId>,
     event: u32,
@@ -36,7 +38,7 @@ pub struct PlainMachine {
 }
 
 impl Model for PlainMachine {
-    ghost use Rattle.std.specs.Prelude.{◌≡◌, ◌%◌};
+    ghost use Rattle.std.specs.Prelude.{◌≡◌, ◌%◌, ◌≤◌, None};
     ghost use Rattle.std.specs.Option.{ForSome};
     ghost use Rattle.svm_model.specs.Bytes.{IsWithin, guest_of};
     ghost use Rattle.plain_machine.specs.Single.{Machine, first_id, single_world};
@@ -44,11 +46,11 @@ impl Model for PlainMachine {
     ghost Value = { Machine };
 
     ghost view = { λ m. record {
-      world = single_world m.version m.features (guest_of m.window m.memory.bytes) m.ended m.vcpu m.placed m.event;
+      world = single_world m.version m.features (guest_of m.window m.memory.bytes) m.ended m.vcpu m.apic.tpr m.placed m.event;
       stopped = m.stopped;
     } };
 
-    ghost invariant = { λ m. IsWithin m.window m.memory.bytes × (m.window.size % 4096 ≡ 0) × ForSome m.placed (λ id. id ≡ first_id) };
+    ghost invariant = { λ m. IsWithin m.window m.memory.bytes × (m.window.size % 4096 ≡ 0) × (4096 ≤ m.window.size) × (m.vcpu.inside ≡ None) × ForSome m.placed (λ id. id ≡ first_id) };
 }
 
 // The one vcpu.
@@ -63,53 +65,86 @@ const NOTHING: Effect = Effect {
     ended: None,
 };
 
+/// What cut an event off: the refusal, and the number of the outward call that was refused.
+struct Cut {
+    end: RunEnd,
+    call: u64,
+}
+
+/// The end that came in a turn of the vcpu.
+fn end_by(stepped: Stepped, event: u32) -> Option<Ended>
+    ensures { result ≡ end_by 0 event stepped }
+{
+    match stepped {
+        Stepped::Ends(end) => Some(Ended {
+            end,
+            vcpu: 0,
+            event,
+        }),
+        Stepped::Went | Stepped::Leaves { .. } | Stepped::Moves { .. } => None,
+    }
+}
+
+/// What a turn of the vcpu knows. The time-stamp counter is the event's number and the vcpu's addend.
+fn facts_of(event: u32, features: u32, vcpu: &Vcpu, apic: &IdleApic) -> Facts
+    ensures { result ≡ facts_in event features vcpu.now apic.now.tpr }
+{
+    Facts {
+        vcpu: FIRST,
+        event,
+        tsc: u64::from(event).wrapping_add(vcpu.registers.tsc_add),
+        apic_id: 0,
+        features,
+        tpr: apic.tpr,
+    }
+}
+
 impl PlainMachine {
-    /// A turn of the vcpu. A halted one does nothing, and so does one whose guest was ended.
-    #[tactic(auto, using(svm_model::proofs::WindowLemmas::windows, port_bus::proofs::Counts::counts), unfolding(svm_model::specs::World::turned))]
-    fn turn<L: Ledger>(
-        &mut self,
-        bus: &mut Bus,
-        steps: &mut Steps<L>,
-    ) -> Result<Option<Ended>, RunEnd>
-        ensures world { self.new.world ≡ (turn_of (is_ok result) self.old.world (⟦<Bus as BusState>⟧.bus bus.old) first_id).world }
+    /// A turn of the vcpu. One whose guest was ended does nothing.
+    #[tactic(auto, using(svm_model::proofs::WindowLemmas::windows, port_bus::proofs::Counts::counts))]
+    fn turn<L: Ledger>(&mut self, bus: &mut Bus, steps: &mut Steps<L>) -> Result<Option<Ended>, Cut>
+        ensures world { OnOk result (self.new.world ≡ (plain_turn self.old.world (⟦<Bus as BusState>⟧.bus bus.old) first_id).world) }
         ensures bus { OnOk result (⟦<Bus as BusState>⟧.bus bus.new ≡ (plain_turn self.old.world (⟦<Bus as BusState>⟧.bus bus.old) first_id).bus) }
         ensures ended { IfOk result (λ ended. ended ≡ (plain_turn self.old.world (⟦<Bus as BusState>⟧.bus bus.old) first_id).ended) }
+        ensures reached { IfErr result (λ cut. self.new.world ≡ (turn_of (Some cut.call) self.old.world (⟦<Bus as BusState>⟧.bus bus.old) first_id).world) }
+        ensures out { IfErr result (λ cut. IsOut cut.call self.old.world (⟦<Bus as BusState>⟧.bus bus.old) (Some (Some first_id))) }
         ensures kept { OnErr result (⟦<Bus as BusState>⟧.bus bus.new ≡ ⟦<Bus as BusState>⟧.bus bus.old) }
-        ensures writes { OnErr result (WritesOne (⟦<Bus as BusState>⟧.bus bus.old) (plain_turn self.old.world (⟦<Bus as BusState>⟧.bus bus.old) first_id).bus) }
-        ensures blamed { IfErr result (λ end. Blames end (⟦<Bus as BusState>⟧.faults bus.old) (⟦<Bus as BusState>⟧.faults bus.new)) }
+        ensures blamed { IfErr result (λ cut. Blames cut.end (⟦<Bus as BusState>⟧.faults bus.old) (⟦<Bus as BusState>⟧.faults bus.new)) }
         ensures none_fell { NoneFell (⟦<Bus as BusState>⟧.faults bus.old) (⟦<Bus as BusState>⟧.faults bus.new) }
         ensures shape { world_shape self.new.world ≡ world_shape self.old.world }
         ensures number { self.new.world.event ≡ self.old.world.event }
         ensures stopped { self.new.stopped ≡ self.old.stopped }
-        ensures steps { steps.new ≤ steps.old + 40 }
+        ensures steps { steps.new ≤ steps.old + 3262 }
         ensures later { steps.old ≤ steps.new }
     {
-        if self.ended.is_some() || self.vcpu.halted {
+        if self.ended.is_some() {
             return Ok(None);
         }
-        let facts = Facts {
-            vcpu: FIRST,
-            event: self.event,
-        };
-        match take_turn(
+        let facts = facts_of(self.event, self.features, &self.vcpu, &self.apic);
+        let turn = take_turn(
             &mut self.memory,
             self.window,
             bus,
-            facts,
+            &mut self.apic,
+            &facts,
             &mut self.vcpu,
             steps,
-        )? {
-            Stepped::Went => Ok(None),
-            Stepped::Ends(end) => {
-                let ended = Ended {
-                    end,
-                    vcpu: 0,
-                    event: self.event,
-                };
-                self.ended = Some(ended);
-                Ok(Some(ended))
-            }
+        );
+        self.ended = end_by(turn.stepped, self.event);
+        match turn.refused {
+            None => Ok(self.ended),
+            Some(end) => Err(Cut {
+                end,
+                call: turn.calls,
+            }),
         }
+    }
+
+    /// At the start of each event the due timers ring: none yet, as no guest reaches its APIC.
+    #[tactic(auto, using(crate::proofs::Idle::idle))]
+    fn ring_timers(&mut self)
+        ensures { self.new ≡ record { world = with_timers self.old.world; stopped = self.old.stopped } }
+    {
     }
 
     /// Places the vcpu on the processor.
@@ -120,6 +155,28 @@ impl PlainMachine {
     {
         let _ = cpu;
         self.placed = Some(vcpu);
+    }
+
+    /// The APIC of a vcpu accepts a vector: it drops it, as no guest has enabled its APIC.
+    #[tactic(auto, using(crate::proofs::Singles::singles, crate::proofs::Idle::idle))]
+    fn interrupt(&mut self, vcpu: VcpuId, vector: u8)
+        requires { IsNamed (world_shape self.old.world) (Event.Irq vcpu vector) }
+        ensures { self.new ≡ record { world = changed_guest self.old.world vcpu (guest_with_irq vcpu.index vector); stopped = self.old.stopped } }
+    {
+        let _ = vcpu;
+        let _ = vector;
+    }
+
+    /// An NMI is pending at a vcpu, unless its guest was ended.
+    #[tactic(auto, using(crate::proofs::Singles::singles))]
+    fn interrupt_for_good(&mut self, vcpu: VcpuId)
+        requires { IsNamed (world_shape self.old.world) (Event.Nmi vcpu) }
+        ensures { self.new ≡ record { world = changed_guest self.old.world vcpu (guest_with_nmi vcpu.index); stopped = self.old.stopped } }
+    {
+        let _ = vcpu;
+        if self.ended.is_none() {
+            self.vcpu.nmi = true;
+        }
     }
 
     /// The event is over.
@@ -142,27 +199,27 @@ impl PlainMachine {
     }
 
     /// A turn of the vcpu that is placed on the processor, or nothing.
-    #[tactic(auto, using(port_bus::proofs::Counts::counts), unfolding(svm_model::specs::World::plain_event, svm_model::specs::World::reached))]
+    #[tactic(auto, using(port_bus::proofs::Counts::counts), unfolding(svm_model::specs::World::event_of, svm_model::specs::World::reached_of, svm_model::specs::World::HandsOverOf))]
     fn run<L: Ledger>(
         &mut self,
         cpu: CpuId,
         bus: &mut Bus,
         steps: &mut Steps<L>,
-    ) -> Result<Effect, RunEnd>
+    ) -> Result<Effect, Cut>
         requires named { IsNamed (world_shape self.old.world) (Event.Run cpu) }
         requires few { self.old.world.event < 1048576 }
-        ensures world { OnOk result (self.new.world ≡ (plain_event self.old.world (⟦<Bus as BusState>⟧.bus bus.old) (Event.Run cpu)).world) }
-        ensures bus { OnOk result (⟦<Bus as BusState>⟧.bus bus.new ≡ (plain_event self.old.world (⟦<Bus as BusState>⟧.bus bus.old) (Event.Run cpu)).bus) }
-        ensures effect { IfOk result (λ effect. effect ≡ (plain_event self.old.world (⟦<Bus as BusState>⟧.bus bus.old) (Event.Run cpu)).effect) }
-        ensures reached { OnErr result (self.new.world ≡ reached self.old.world (⟦<Bus as BusState>⟧.bus bus.old) (Event.Run cpu)) }
+        ensures world { OnOk result (self.new.world ≡ (event_of self.old.world (⟦<Bus as BusState>⟧.bus bus.old) (Event.Run cpu)).world) }
+        ensures bus { OnOk result (⟦<Bus as BusState>⟧.bus bus.new ≡ (event_of self.old.world (⟦<Bus as BusState>⟧.bus bus.old) (Event.Run cpu)).bus) }
+        ensures effect { IfOk result (λ effect. effect ≡ (event_of self.old.world (⟦<Bus as BusState>⟧.bus bus.old) (Event.Run cpu)).effect) }
+        ensures reached { IfErr result (λ cut. self.new.world ≡ reached_of cut.call self.old.world (⟦<Bus as BusState>⟧.bus bus.old) (Event.Run cpu)) }
+        ensures hands_over { IfErr result (λ cut. HandsOverOf cut.call self.old.world (⟦<Bus as BusState>⟧.bus bus.old) (Event.Run cpu)) }
         ensures kept { OnErr result (⟦<Bus as BusState>⟧.bus bus.new ≡ ⟦<Bus as BusState>⟧.bus bus.old) }
-        ensures hands_over { OnErr result (HandsOver self.old.world (⟦<Bus as BusState>⟧.bus bus.old) (Event.Run cpu)) }
-        ensures blamed { IfErr result (λ end. Blames end (⟦<Bus as BusState>⟧.faults bus.old) (⟦<Bus as BusState>⟧.faults bus.new)) }
+        ensures blamed { IfErr result (λ cut. Blames cut.end (⟦<Bus as BusState>⟧.faults bus.old) (⟦<Bus as BusState>⟧.faults bus.new)) }
         ensures none_fell { NoneFell (⟦<Bus as BusState>⟧.faults bus.old) (⟦<Bus as BusState>⟧.faults bus.new) }
         ensures shape { world_shape self.new.world ≡ world_shape self.old.world }
         ensures number { OnOk result (self.new.world.event ≡ self.old.world.event + 1) }
         ensures stopped { self.new.stopped ≡ self.old.stopped }
-        ensures steps { steps.new ≤ steps.old + 40 }
+        ensures steps { steps.new ≤ steps.old + 3262 }
         ensures later { steps.old ≤ steps.new }
     {
         let Some(vcpu) = self.placed_on(cpu) else {
@@ -178,73 +235,76 @@ impl PlainMachine {
     }
 
     /// Feeds a device.
-    #[tactic(auto, using(port_bus::proofs::Counts::counts), unfolding(svm_model::specs::World::plain_event, svm_model::specs::World::reached))]
-    fn feed(&mut self, device: u8, value: u32, bus: &mut Bus) -> Result<Effect, RunEnd>
+    #[tactic(auto, using(port_bus::proofs::Counts::counts), unfolding(svm_model::specs::World::event_of, svm_model::specs::World::reached_of, svm_model::specs::World::HandsOverOf))]
+    fn feed(&mut self, device: u8, value: u32, bus: &mut Bus) -> Result<Effect, Cut>
         requires named { IsNamed (world_shape self.old.world) (Event.Feed device value) }
         requires few { self.old.world.event < 1048576 }
-        ensures world { OnOk result (self.new.world ≡ (plain_event self.old.world (⟦<Bus as BusState>⟧.bus bus.old) (Event.Feed device value)).world) }
-        ensures bus { OnOk result (⟦<Bus as BusState>⟧.bus bus.new ≡ (plain_event self.old.world (⟦<Bus as BusState>⟧.bus bus.old) (Event.Feed device value)).bus) }
-        ensures effect { IfOk result (λ effect. effect ≡ (plain_event self.old.world (⟦<Bus as BusState>⟧.bus bus.old) (Event.Feed device value)).effect) }
-        ensures reached { OnErr result (self.new.world ≡ reached self.old.world (⟦<Bus as BusState>⟧.bus bus.old) (Event.Feed device value)) }
+        ensures world { OnOk result (self.new.world ≡ (event_of self.old.world (⟦<Bus as BusState>⟧.bus bus.old) (Event.Feed device value)).world) }
+        ensures bus { OnOk result (⟦<Bus as BusState>⟧.bus bus.new ≡ (event_of self.old.world (⟦<Bus as BusState>⟧.bus bus.old) (Event.Feed device value)).bus) }
+        ensures effect { IfOk result (λ effect. effect ≡ (event_of self.old.world (⟦<Bus as BusState>⟧.bus bus.old) (Event.Feed device value)).effect) }
+        ensures reached { IfErr result (λ cut. self.new.world ≡ reached_of cut.call self.old.world (⟦<Bus as BusState>⟧.bus bus.old) (Event.Feed device value)) }
+        ensures hands_over { IfErr result (λ cut. HandsOverOf cut.call self.old.world (⟦<Bus as BusState>⟧.bus bus.old) (Event.Feed device value)) }
         ensures kept { OnErr result (⟦<Bus as BusState>⟧.bus bus.new ≡ ⟦<Bus as BusState>⟧.bus bus.old) }
-        ensures blamed { IfErr result (λ end. Blames end (⟦<Bus as BusState>⟧.faults bus.old) (⟦<Bus as BusState>⟧.faults bus.new)) }
+        ensures blamed { IfErr result (λ cut. Blames cut.end (⟦<Bus as BusState>⟧.faults bus.old) (⟦<Bus as BusState>⟧.faults bus.new)) }
         ensures none_fell { NoneFell (⟦<Bus as BusState>⟧.faults bus.old) (⟦<Bus as BusState>⟧.faults bus.new) }
         ensures shape { world_shape self.new.world ≡ world_shape self.old.world }
         ensures number { OnOk result (self.new.world.event ≡ self.old.world.event + 1) }
         ensures stopped { self.new.stopped ≡ self.old.stopped }
     {
-        bus.feed(device, value)?;
-        self.finish_event();
-        Ok(NOTHING)
+        match bus.feed(device, value) {
+            Ok(()) => {
+                self.finish_event();
+                Ok(NOTHING)
+            }
+            Err(end) => Err(Cut { end, call: 0 }),
+        }
     }
 
     /// What an event does, before a refusal of the bus stops the machine.
-    #[tactic(auto, using(port_bus::proofs::Counts::counts), unfolding(svm_model::specs::World::plain_event, svm_model::specs::World::reached))]
+    #[tactic(auto, using(port_bus::proofs::Counts::counts), unfolding(svm_model::specs::World::event_of, svm_model::specs::World::reached_of, svm_model::specs::World::HandsOverOf))]
     fn happen<L: Ledger>(
         &mut self,
         event: Event,
         bus: &mut Bus,
         steps: &mut Steps<L>,
-    ) -> Result<Effect, RunEnd>
+    ) -> Result<Effect, Cut>
         requires named { IsNamed (world_shape self.old.world) event }
         requires few { self.old.world.event < 1048576 }
-        ensures world { OnOk result (self.new.world ≡ (plain_event self.old.world (⟦<Bus as BusState>⟧.bus bus.old) event).world) }
-        ensures bus { OnOk result (⟦<Bus as BusState>⟧.bus bus.new ≡ (plain_event self.old.world (⟦<Bus as BusState>⟧.bus bus.old) event).bus) }
-        ensures effect { IfOk result (λ effect. effect ≡ (plain_event self.old.world (⟦<Bus as BusState>⟧.bus bus.old) event).effect) }
-        ensures reached { OnErr result (self.new.world ≡ reached self.old.world (⟦<Bus as BusState>⟧.bus bus.old) event) }
+        ensures world { OnOk result (self.new.world ≡ (event_of self.old.world (⟦<Bus as BusState>⟧.bus bus.old) event).world) }
+        ensures bus { OnOk result (⟦<Bus as BusState>⟧.bus bus.new ≡ (event_of self.old.world (⟦<Bus as BusState>⟧.bus bus.old) event).bus) }
+        ensures effect { IfOk result (λ effect. effect ≡ (event_of self.old.world (⟦<Bus as BusState>⟧.bus bus.old) event).effect) }
+        ensures reached { IfErr result (λ cut. self.new.world ≡ reached_of cut.call self.old.world (⟦<Bus as BusState>⟧.bus bus.old) event) }
+        ensures hands_over { IfErr result (λ cut. HandsOverOf cut.call self.old.world (⟦<Bus as BusState>⟧.bus bus.old) event) }
         ensures kept { OnErr result (⟦<Bus as BusState>⟧.bus bus.new ≡ ⟦<Bus as BusState>⟧.bus bus.old) }
-        ensures hands_over { OnErr result (HandsOver self.old.world (⟦<Bus as BusState>⟧.bus bus.old) event) }
-        ensures blamed { IfErr result (λ end. Blames end (⟦<Bus as BusState>⟧.faults bus.old) (⟦<Bus as BusState>⟧.faults bus.new)) }
+        ensures blamed { IfErr result (λ cut. Blames cut.end (⟦<Bus as BusState>⟧.faults bus.old) (⟦<Bus as BusState>⟧.faults bus.new)) }
         ensures none_fell { NoneFell (⟦<Bus as BusState>⟧.faults bus.old) (⟦<Bus as BusState>⟧.faults bus.new) }
         ensures shape { world_shape self.new.world ≡ world_shape self.old.world }
         ensures number { OnOk result (self.new.world.event ≡ self.old.world.event + 1) }
         ensures stopped { self.new.stopped ≡ self.old.stopped }
-        ensures steps { steps.new ≤ steps.old + 40 }
+        ensures steps { steps.new ≤ steps.old + 3262 }
         ensures later { steps.old ≤ steps.new }
     {
         match event {
-            Event::Place { cpu, vcpu } => {
-                self.place(cpu, vcpu);
-                self.finish_event();
-                Ok(NOTHING)
-            }
-            Event::Run { cpu } => self.run(cpu, bus, steps),
-            Event::Feed { device, value } => self.feed(device, value, bus),
-            Event::Unplug { device } => {
-                bus.unplug(device);
-                self.finish_event();
-                Ok(NOTHING)
-            }
+            Event::Place { cpu, vcpu } => self.place(cpu, vcpu),
+            Event::Run { cpu } => return self.run(cpu, bus, steps),
+            Event::Feed { device, value } => return self.feed(device, value, bus),
+            Event::Irq { vcpu, vector } => self.interrupt(vcpu, vector),
+            Event::Nmi { vcpu } => self.interrupt_for_good(vcpu),
+            Event::Unplug { device } => bus.unplug(device),
+            Event::Dump { .. } => {}
         }
+        self.finish_event();
+        Ok(NOTHING)
     }
 
-    /// Does one event of the schedule: places a vcpu, lets the placed vcpu take one turn, feeds a port device or unplugs it.
-    /// The turn of a guest that was ended does nothing, so an end stays. At most forty reads are counted. The event names what
-    /// the image and the bus have, fewer than 1,048,576 events came before it, and the machine is not stopped.
+    /// Does one event of the schedule: places a vcpu, lets the placed vcpu take one turn, feeds a port device or unplugs it, or
+    /// hands an interrupt or an NMI to a vcpu. The turn of a guest that was ended does nothing, so an end stays. At most 3,262
+    /// reads are counted, as many as a turn may spend. The event names what the image and the bus have, fewer than 1,048,576
+    /// events came before it, and the machine is not stopped.
     ///
-    /// Only a feed, or a turn that writes to a port, may be refused: the answer is the bus's, which blames a device only where
-    /// that counted a fault in this call. The bus is then as it was, and the machine stands where the event had come to, with
-    /// the vcpu before its instruction, and is stopped.
+    /// Only a feed, or a turn's write to a port, may be refused: the answer is the bus's, which blames a device only where
+    /// that counted a fault in this call. The bus is then as it was, and the machine stands where the event had come to when
+    /// that outward call of it was refused, with the vcpu before its instruction, and is stopped.
     #[tactic(auto, using(svm_model::proofs::EndLemmas::ends))]
     pub fn event<L: Ledger>(
         &mut self,
@@ -259,23 +319,23 @@ impl PlainMachine {
         ensures bus { OnOk result (⟦<Bus as BusState>⟧.bus bus.new ≡ (plain_event self.old.world (⟦<Bus as BusState>⟧.bus bus.old) event).bus) }
         ensures effect { IfOk result (λ effect. effect ≡ (plain_event self.old.world (⟦<Bus as BusState>⟧.bus bus.old) event).effect) }
         ensures stopped { self.new.stopped ≡ is_err result }
-        ensures reached { OnErr result (self.new.world ≡ reached self.old.world (⟦<Bus as BusState>⟧.bus bus.old) event) }
+        ensures reached { OnErr result ((call : ℕ) × (self.new.world ≡ reached call self.old.world (⟦<Bus as BusState>⟧.bus bus.old) event) × HandsOver call self.old.world (⟦<Bus as BusState>⟧.bus bus.old) event) }
         ensures kept { OnErr result (⟦<Bus as BusState>⟧.bus bus.new ≡ ⟦<Bus as BusState>⟧.bus bus.old) }
-        ensures hands_over { OnErr result (HandsOver self.old.world (⟦<Bus as BusState>⟧.bus bus.old) event) }
         ensures blamed { IfErr result (λ end. Blames end (⟦<Bus as BusState>⟧.faults bus.old) (⟦<Bus as BusState>⟧.faults bus.new)) }
         ensures none_fell { NoneFell (⟦<Bus as BusState>⟧.faults bus.old) (⟦<Bus as BusState>⟧.faults bus.new) }
         ensures ends_stay { EndsStay self.old.world self.new.world }
         ensures shape { world_shape self.new.world ≡ world_shape self.old.world }
         ensures well_formed { IsWellFormed self.new.world }
         ensures number { OnOk result (self.new.world.event ≡ self.old.world.event + 1) }
-        ensures steps { steps.new ≤ steps.old + 40 }
+        ensures steps { steps.new ≤ steps.old + 3262 }
         ensures later { steps.old ≤ steps.new }
     {
+        self.ring_timers();
         match self.happen(event, bus, steps) {
             Ok(effect) => Ok(effect),
-            Err(end) => {
+            Err(cut) => {
                 self.stopped = true;
-                Err(end)
+                Err(cut.end)
             }
         }
     }
@@ -298,9 +358,10 @@ impl PlainMachine {
     }
 
     /// The level of a vcpu, which the image has to have: 1, as no vcpu runs a guest of its own.
+    #[tactic(auto, using(crate::proofs::Singles::singles, crate::proofs::Singles::levels))]
     pub fn level(&self, vcpu: VcpuId) -> u8
         requires { IsVcpu (world_shape self.now.world) vcpu }
-        ensures { result ≡ 1 }
+        ensures { option_map (λ v. level_in v.inside) (vcpu_in self.now.world vcpu) ≡ Some result }
     {
         let _ = vcpu;
         1
@@ -372,15 +433,28 @@ impl PlainMachine {
             features: image.features,
             memory,
             window,
-            vcpu: Vcpu {
-                registers,
-                halted: false,
-            },
+            vcpu: first_vcpu(registers),
+            apic: IdleApic { tpr: 0 },
             ended: None,
             placed: None,
             event: 0,
             stopped: false,
         })
+    }
+}
+
+/// A vcpu as it starts, with these registers.
+fn first_vcpu(registers: Registers) -> Vcpu
+    ensures { result ≡ first_vcpu registers }
+{
+    Vcpu {
+        registers,
+        gif: true,
+        nmi: false,
+        nmi_blocked: false,
+        held: None,
+        halted: false,
+        inside: None,
     }
 }
 
@@ -391,6 +465,7 @@ fn open_memory(alloc: Global, guest: &GuestImage) -> Result<(HostMemory, GuestWi
     ensures memory { IfOk result (λ r. guest_of r.1 r.0.bytes ≡ (first_guest guest.now).memory) }
     ensures window { IfOk result (λ r. IsWithin r.1 r.0.bytes) }
     ensures pages { IfOk result (λ r. r.1.size % 4096 ≡ 0) }
+    ensures some { IfOk result (λ r. 4096 ≤ r.1.size) }
 {
     let Ok(mut memory) = HostMemory::new(alloc, guest.pages) else {
         return Err(NoMemory);

@@ -1,81 +1,107 @@
--- The course of a turn: what the turn wants of the linear memory, one step after another, and what comes of it. Parts of
--- pages go by the number of their translation, so a course sees words and never a frame: it is the same course over a
--- guest's memory and over host memory. `play` gives it its meaning, and tells what was done.
-use Rattle.std.specs.Prelude.{ℕ, ◌+◌, ◌*◌, ◌/◌, ◌%◌, ◌==◌, nat_lt, List, [], ◌∷◌, ◌++◌, Bool, if◌then◌else◌, length, take, drop, slice_index}
+-- The course of a turn: what the turn wants of the linear memory, of the ports and of its APIC, one step after another, and
+-- what comes of it. A part that was translated has a number, so a course sees numbers and words and never a frame: it is the
+-- same course over a guest's memory and over host memory. `play` gives it its meaning, and tells what was done.
+use Rattle.std.specs.Prelude.{ℕ, ◌+◌, ◌*◌, ◌/◌, ◌%◌, ◌^◌, ◌==◌, nat_lt, List, [], ◌∷◌, ◌++◌, Bool, true, false, not, if◌then◌else◌, Option, Some, None, Result, Ok, Err, length, take, drop, slice_index}
+use Rattle.svm_model.specs.Apic.{Apic, Written, register_read, register_written, taken}
 use Rattle.svm_model.specs.Bus.{Bus, device_of, value_read, bus_after_read, bus_after_write}
-use Rattle.svm_model.specs.Bytes.{put_at}
-use Rattle.svm_model.specs.Guest.{Vcpu}
-use Rattle.svm_model.specs.PageTables.{walked}
+use Rattle.svm_model.specs.Bytes.{bytes_at, put_at}
+use Rattle.svm_model.specs.declared.vcpus.Vcpu.{Vcpu}
+use Rattle.svm_model.specs.NestedPaging.{Reached, walked_over}
+use Rattle.svm_model.specs.Vmcb.{Fields, FieldValue}
+use Rattle.svm_model.specs.declared.apics.Ipi.{Ipi}
 use Rattle.svm_model.specs.declared.names.Access.{Access}
-use Rattle.svm_model.specs.declared.page_tables.Paging.{Paging}
+use Rattle.svm_model.specs.declared.page_tables.Nested.{Nested}
+use Rattle.svm_model.specs.declared.page_tables.Nested.TheVariants.{Leaf, Bar, PageFault, NestedFault as Missed, Ended}
 use Rattle.svm_model.specs.declared.page_tables.Pass.{Pass}
-use Rattle.svm_model.specs.declared.page_tables.Walked.{Walked}
-use Rattle.svm_model.specs.declared.page_tables.Walked.TheVariants.{Leaf, PageFault, Ended}
 use Rattle.svm_model.specs.declared.ports.PortWrite.{PortWrite}
-use Rattle.svm_model.specs.declared.turns.Outer.{Outer}
-use Rattle.svm_model.specs.declared.turns.Outer.TheVariants.{Direct}
+use Rattle.svm_model.specs.declared.system.Flush.{Flush}
+use Rattle.svm_model.specs.declared.turns.ApicAnswer.{ApicAnswer}
+use Rattle.svm_model.specs.declared.turns.ApicAnswer.TheVariants.{Value, Stored, Unoffered}
 use Rattle.svm_model.specs.declared.turns.Part.{Part}
 use Rattle.svm_model.specs.declared.turns.Space.{Space}
 use Rattle.svm_model.specs.declared.turns.Stepped.{Stepped}
 use Rattle.svm_model.specs.declared.turns.Translated.{Translated}
-use Rattle.svm_model.specs.declared.turns.Translated.TheVariants.{Here as InMemory, OnApic as AtApic, Faults as Unmapped, Outside as Beyond}
-
--- What a course learns of a translation: the part is in the guest's memory, or on the APIC page; or the walk faults; or
--- a byte is outside the guest's memory, a table entry's or the part's first.
-pub data Translation : Type 0 where
-  Here : Translation
-  OnApic : Translation
-  Faults : (code : ℕ) → Translation
-  Outside : (address : ℕ) → Translation
+use Rattle.svm_model.specs.declared.turns.Translated.TheVariants.{Here as InMemory, OnApic as AtApic, Faults as Unmapped, NestedFault as UnmappedOutside, Outside as Beyond}
+use Rattle.svm_model.specs.declared.turns.Translation.{Translation}
+use Rattle.svm_model.specs.declared.turns.Translation.TheVariants.{Here, OnApic, Faults, NestedFault, Outside}
+use Rattle.svm_model.specs.declared.windows.OutsideMemory.{OutsideMemory}
 
 pub data Course : Type 0 where
   -- the turn is over
   Done : (vcpu : Vcpu) (stepped : Stepped) → Course
+  -- the translations so far are let go: the next one has number 0
+  Release : (next : Course) → Course
   -- the part is translated; one that is there gets the next number
   Translate : (part : Part) (next : Translation → Course) → Course
-  -- so many bytes are read in the page of a translation, from the offset of this linear address on
-  Read : (index address count : ℕ) (next : List ℕ → Course) → Course
+  -- so many bytes are read in a part's page, from the offset of this linear address on
+  Read : (number address count : ℕ) (next : List ℕ → Course) → Course
   -- bytes are written there
-  Write : (index address : ℕ) (bytes : List ℕ) (next : Course) → Course
+  Write : (number address : ℕ) (bytes : List ℕ) (next : Course) → Course
+  -- so many bytes of a permission map are looked at, by their physical address
+  Look : (address count : ℕ) (next : Result (List ℕ) OutsideMemory → Course) → Course
+  -- translations that copies are kept of are dropped; the course learns whether that is done
+  Drop : (flush : Flush) (next : Bool → Course) → Course
   -- a port is read, by so many bytes
   In : (port width : ℕ) (next : ℕ → Course) → Course
   -- a port is written to; the course learns whether the bus takes it
   Out : (write : PortWrite) (next : Bool → Course) → Course
+  -- a register of the vcpu's APIC is read, or written by 32 bits, in this event
+  ApicRead : (offset event : ℕ) (next : ApicAnswer → Course) → Course
+  ApicWrite : (offset value event : ℕ) (next : ApicAnswer → Course) → Course
+  -- the APIC's pending interrupt is taken
+  Take : (next : Course) → Course
+  -- the APIC's task priority is set
+  Priority : (tpr : ℕ) (next : Course) → Course
 
--- How a turn's accesses are translated, and whether the bus takes what the turn writes to a port. It always does in the
--- runs that are defined here; a turn that is cut off is one whose write the bus refused.
+-- How a turn's accesses are translated, and which of its outward calls is refused, by its number. An outward call is one that
+-- another may refuse: the notice of an access or of a flush, a write to a port, and the notices of a VMCB. None is refused in
+-- the runs that are defined here. A turn that is cut off is one of whose calls one was refused: what it has reached is what
+-- playing it on then gives, since each course that learns of a refusal goes to its end at once.
 pub record Way : Type 0 where
   pub space : Space
-  pub taken : Bool
+  pub refused : Option ℕ
 
--- the walk of an access, and memory after it
-abbrev pub walked_over : Outer → List ℕ → Paging → Access → Walked × List ℕ
-walked_over Direct memory paging access = walked memory paging access
+-- What stands about a vcpu: the bus of its ports, its APIC, the interprocessor interrupt that it has sent, how many outward
+-- calls were granted, and the write to a port that was refused, where one was.
+pub record Board : Type 0 where
+  pub bus : Bus
+  pub apic : Apic
+  pub sent : Option Ipi
+  pub calls : ℕ
+  pub denied : Option PortWrite
 
--- the passes of that walk through the outer tables
-abbrev pub passed_over : Outer → List ℕ → Paging → Access → List Pass
-passed_over Direct memory paging access = []
-
--- what a turn did that copies of tables have to do with, in order
+-- What a turn did that copies have to do with, in order; what was refused is told too.
 pub data Told : Type 0 where
-  Accessed : (asid : ℕ) (access : Access) (walked : Walked) (passed : List Pass) → Told
+  -- an access was walked for, under CR0.WP, with its passes through the outer tables
+  Accessed : (asid : ℕ) (write_protect : Bool) (access : Access) (answer : Nested) (passed : List Pass) → Told
+  Flushed : (flush : Flush) → Told
+  -- the fields of a VMCB were found in memory: at a VMRUN, or at a turn inside it
+  Found : (vmcb : ℕ) (entering : Bool) (found : Fields) → Told
+  -- a #VMEXIT stored these fields of a VMCB
+  Left : (vmcb : ℕ) (stored : List FieldValue) → Told
 
 -- what an access in a space tells
 abbrev pub told_of : Space → List ℕ → Access → Told
 told_of space memory access =
-    Accessed space.asid access (walked_over space.outer memory space.paging access).0 (passed_over space.outer memory space.paging access)
+    let reached = walked_over space.outer memory space.paging access in Accessed space.asid space.paging.write_protect access reached.answer reached.passes
 
 -- what playing a course gives
 pub record Turned : Type 0 where
   pub memory : List ℕ
-  pub bus : Bus
+  pub board : Board
   pub vcpu : Vcpu
   pub stepped : Stepped
   pub told : List Told
 
 -- what comes after a thing that was told of
 abbrev pub after : Told → Turned → Turned
-after told turned = record { memory = turned.memory; bus = turned.bus; vcpu = turned.vcpu; stepped = turned.stepped; told = told ∷ turned.told }
+after told turned = record {
+  memory = turned.memory;
+  board = turned.board;
+  vcpu = turned.vcpu;
+  stepped = turned.stepped;
+  told = told ∷ turned.told;
+}
 
 abbrev pub access_of : Part → Access
 access_of part = record { page = record { 0 = part.address / 4096 }; kind = part.kind; user = part.user }
@@ -95,38 +121,124 @@ located part frame memory =
     else if nat_lt (4096 * frame) (length memory) then InMemory (record { 0 = frame })
     else Beyond (place_in frame part.address)
 
+-- the address of a nested fault: that of a table entry (bit 33 of the code), or of the part's first byte in its final page
+abbrev pub missed_at : Part → ℕ → ℕ → ℕ
+missed_at part code address = if nat_lt code (2 ^ 33) then address + part.address % 4096 else address
+
 -- where a part lies, by the walk for it
-abbrev pub translated : Part → Walked → List ℕ → Translated
-translated part (Leaf leaf changed) memory = located part leaf.frame.0 memory
+abbrev pub translated : Part → Nested → List ℕ → Translated
+translated part (Leaf leaf guest_frame changed) memory = located part leaf.frame.0 memory
+translated part (Bar leaf changed) memory = AtApic
 translated part (PageFault code) memory = Unmapped code
+translated part (Missed code address) memory = UnmappedOutside code (missed_at part code address)
 translated part (Ended outside) memory = Beyond outside.address
 
--- a part that is there goes on at its frame; the course is told of any other answer
-abbrev pub on_translated : Translated → List ℕ → (ℕ → List ℕ → Turned) → (Translation → List ℕ → Turned) → Turned
-on_translated (InMemory frame) memory here stops = here frame.0 memory
-on_translated AtApic memory here stops = stops OnApic memory
-on_translated (Unmapped code) memory here stops = stops (Faults code) memory
-on_translated (Beyond address) memory here stops = stops (Outside address) memory
+-- Outward calls.
 
--- a part is walked for, which is told whatever comes of it
-abbrev pub translating : Space → List ℕ → Part → (ℕ → List ℕ → Turned) → (Translation → List ℕ → Turned) → Turned
-translating space memory part here stops =
-    let walk = walked_over space.outer memory space.paging (access_of part) in
-    after (told_of space memory (access_of part)) (on_translated (translated part walk.0 walk.1) walk.1 here stops)
+abbrev pub is_refused : Option ℕ → ℕ → Bool
+is_refused None number = false
+is_refused (Some refused) number = refused == number
+
+-- the next outward call is refused
+abbrev pub refuses : Way → Board → Bool
+refuses way board = is_refused way.refused board.calls
+
+-- a call that is granted counts
+abbrev pub called : Bool → Board → Board
+called refused board = record board { calls = if refused then board.calls else board.calls + 1 }
+
+-- What a course learns of a translation, where so many parts have a number.
+abbrev pub numbered : ℕ → Translated → Translation
+numbered number (InMemory frame) = Here number
+numbered number AtApic = OnApic
+numbered number (Unmapped code) = Faults code
+numbered number (UnmappedOutside code address) = NestedFault code address
+numbered number (Beyond address) = Outside address
+
+-- where the notice of the access is refused the course goes on as if its guest ended there, and is at its end
+abbrev pub heard : Bool → Translated → Translated
+heard refused found = if refused then Beyond 0 else found
+
+-- the frames behind a translation
+abbrev pub frames_after : List ℕ → Translated → List ℕ
+frames_after frames (InMemory frame) = frames ++ frame.0 ∷ []
+frames_after frames AtApic = frames
+frames_after frames (Unmapped code) = frames
+frames_after frames (UnmappedOutside code address) = frames
+frames_after frames (Beyond address) = frames
+
+-- What stands about a vcpu, behind a step.
 
 -- the bus after a write to a port, where it takes it
 abbrev pub bus_after_out : Bool → Bus → PortWrite → Bus
-bus_after_out taken bus write = if taken then bus_after_write bus write else bus
+bus_after_out refused bus write = if refused then bus else bus_after_write bus write
 
--- the meaning of a course over a bus and memory, with the frames of the parts translated so far
-abbrev pub play : Way → Bus → List ℕ → List ℕ → Course → Turned
-play way bus memory frames (Done vcpu stepped) = record { memory = memory; bus = bus; vcpu = vcpu; stepped = stepped; told = [] }
-play way bus memory frames (Translate part next) =
-    translating way.space memory part (λ frame m. play way bus m (frames ++ frame ∷ []) (next Here)) (λ stop m. play way bus m frames (next stop))
-play way bus memory frames (Read index address count next) =
-    play way bus memory frames (next (take count (drop (place_in (slice_index frames index) address) memory)))
-play way bus memory frames (Write index address bytes next) =
-    play way bus (put_at memory (place_in (slice_index frames index) address) bytes) frames next
-play way bus memory frames (In port width next) =
-    play way (bus_after_read bus port) memory frames (next (value_read (device_of bus port) width))
-play way bus memory frames (Out write next) = play way (bus_after_out way.taken bus write) memory frames (next way.taken)
+abbrev pub with_bus : Board → Bus → Board
+with_bus board bus = record board { bus = bus }
+
+-- the write that was refused
+abbrev pub denied_after_out : Bool → Option PortWrite → PortWrite → Option PortWrite
+denied_after_out refused denied write = if refused then Some write else denied
+
+abbrev pub with_out : Bool → Board → PortWrite → Board
+with_out refused board write = record board {
+  bus = bus_after_out refused board.bus write;
+  denied = denied_after_out refused board.denied write;
+}
+
+abbrev pub read_answer : Option ℕ → ApicAnswer
+read_answer None = Unoffered
+read_answer (Some value) = Value value
+
+abbrev pub written_answer : Option Written → ApicAnswer
+written_answer None = Unoffered
+written_answer (Some written) = Stored
+
+-- the APIC, and what it has sent, behind a write
+abbrev pub apic_after : Option Written → Apic → Apic
+apic_after None apic = apic
+apic_after (Some written) apic = written.apic
+
+abbrev pub sent_after : Option Written → Option Ipi → Option Ipi
+sent_after None sent = sent
+sent_after (Some written) sent = written.sent
+
+abbrev pub board_after : Option Written → Board → Board
+board_after written board = record board { apic = apic_after written board.apic; sent = sent_after written board.sent }
+
+abbrev pub with_apic : Board → Apic → Board
+with_apic board apic = record board { apic = apic }
+
+abbrev pub prioritized : ℕ → Apic → Apic
+prioritized tpr apic = record apic { tpr = tpr }
+
+-- the meaning of a course over what stands about the vcpu and memory, with the frames of the parts translated so far
+abbrev pub play : Way → Board → List ℕ → List ℕ → Course → Turned
+play way board memory frames (Done vcpu stepped) = record { memory = memory; board = board; vcpu = vcpu; stepped = stepped; told = [] }
+play way board memory frames (Release next) = play way board memory [] next
+play way board memory frames (Translate part next) =
+    let reached = walked_over way.space.outer memory way.space.paging (access_of part) in
+    let refused = refuses way board in
+    let found = heard refused (translated part reached.answer reached.memory) in
+    after (told_of way.space memory (access_of part))
+    (play way (called refused board) reached.memory (frames_after frames found) (next (numbered (length frames) found)))
+play way board memory frames (Read number address count next) =
+    play way board memory frames (next (take count (drop (place_in (slice_index frames number) address) memory)))
+play way board memory frames (Write number address bytes next) =
+    play way board (put_at memory (place_in (slice_index frames number) address) bytes) frames next
+play way board memory frames (Look address count next) = play way board memory frames (next (bytes_at memory address count))
+play way board memory frames (Drop flush next) =
+    let refused = refuses way board in after (Flushed flush) (play way (called refused board) memory frames (next (not refused)))
+play way board memory frames (In port width next) =
+    play way (with_bus board (bus_after_read board.bus port)) memory frames (next (value_read (device_of board.bus port) width))
+play way board memory frames (Out write next) =
+    let refused = refuses way board in
+    play way (called refused (with_out refused board write)) memory frames (next (not refused))
+play way board memory frames (ApicRead offset event next) =
+    play way board memory frames (next (read_answer (register_read board.apic offset event)))
+play way board memory frames (ApicWrite offset value event next) =
+    let written = register_written board.apic offset value event in
+    play way (board_after written board) memory frames (next (written_answer written))
+play way board memory frames (Take next) = play way (with_apic board (taken board.apic)) memory frames next
+play way board memory frames (Priority tpr next) =
+    play way (with_apic board (prioritized tpr board.apic)) memory frames next

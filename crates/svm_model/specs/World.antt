@@ -1,26 +1,27 @@
 -- The plain machine: a world of guests beside the bus of their port devices, and what each event makes of both. It walks
 -- from the root at each access.
-use Rattle.std.specs.Prelude.{◌≡◌, ℕ, ◌+◌, ◌*◌, ◌%◌, ◌&&◌, ◌==◌, List, [], ◌∷◌, Bool, true, false, if◌then◌else◌, Option, Some, None, length, map, replicate, slice_get, slice_set, ◌<◌}
+use Rattle.std.specs.Prelude.{◌≡◌, ℕ, ◌+◌, ◌*◌, ◌%◌, ◌^◌, ◌&&◌, ◌||◌, ◌==◌, List, [], ◌∷◌, Bool, true, false, if◌then◌else◌, Option, Some, None, length, map, replicate, slice_get, slice_set, ◌<◌}
 use Rattle.std.specs.List.{All}
+use Rattle.svm_model.specs.Apic.{Apic, accepted, expired, first_apic, targets_of}
 use Rattle.svm_model.specs.Bus.{Bus, device_count, bus_after_feed, bus_after_unplug}
 use Rattle.svm_model.specs.Bytes.{put_at}
-use Rattle.svm_model.specs.Course.{Way, Told, Turned, play}
-use Rattle.svm_model.specs.Guest.{Guest, Vcpu}
+use Rattle.svm_model.specs.Course.{Board, Told, Turned}
+use Rattle.svm_model.specs.Guest.{Guest}
+use Rattle.svm_model.specs.declared.vcpus.Vcpu.{Vcpu}
 use Rattle.svm_model.specs.Image.{Image, ImageGuest, ImageSegment}
-use Rattle.svm_model.specs.Instruction.{instruction}
-use Rattle.svm_model.specs.RegisterFile.{paging_of}
+use Rattle.svm_model.specs.PlainTurn.{turned}
+use Rattle.svm_model.specs.declared.apics.Ipi.{Ipi}
 use Rattle.svm_model.specs.declared.names.CpuId.{CpuId}
 use Rattle.svm_model.specs.declared.names.Effect.{Effect}
 use Rattle.svm_model.specs.declared.names.Ended.{Ended}
 use Rattle.svm_model.specs.declared.names.Event.{Event}
-use Rattle.svm_model.specs.declared.names.Event.TheVariants.{Place, Run, Feed, Unplug}
+use Rattle.svm_model.specs.declared.names.Event.TheVariants.{Place, Run, Feed, Irq, Nmi, Unplug, Dump}
 use Rattle.svm_model.specs.declared.names.VcpuId.{VcpuId}
+use Rattle.svm_model.specs.declared.ports.PortWrite.{PortWrite}
 use Rattle.svm_model.specs.declared.register_file.Registers.{Registers}
 use Rattle.svm_model.specs.declared.turns.Facts.{Facts}
-use Rattle.svm_model.specs.declared.turns.Outer.TheVariants.{Direct}
-use Rattle.svm_model.specs.declared.turns.Space.{Space}
 use Rattle.svm_model.specs.declared.turns.Stepped.{Stepped}
-use Rattle.svm_model.specs.declared.turns.Stepped.TheVariants.{Went, Ends}
+use Rattle.svm_model.specs.declared.turns.Stepped.TheVariants.{Went, Leaves, Moves, Ends}
 
 -- the image's version, features and processors; the guests; the vcpu that is placed on each processor; and how many
 -- events there were
@@ -39,13 +40,27 @@ loaded memory [] = memory
 loaded memory (segment ∷ segments) = loaded (put_at memory segment.address segment.bytes) segments
 
 abbrev pub first_vcpu : Registers → Vcpu
-first_vcpu registers = record { registers = registers; halted = false }
+first_vcpu registers = record {
+  registers = registers;
+  gif = true;
+  nmi = false;
+  nmi_blocked = false;
+  held = None;
+  halted = false;
+  inside = None;
+}
+
+-- an APIC for each vcpu, whose identifier is the vcpu's number
+unfoldable pub first_apics : ℕ → List Registers → List Apic
+first_apics id [] = []
+first_apics id (registers ∷ vcpus) = first_apic id ∷ first_apics (id + 1) vcpus
 
 abbrev pub first_guest : ImageGuest → Guest
 first_guest guest = record {
   memory = loaded (replicate (4096 * guest.pages) 0) guest.segments;
   ended = None;
   vcpus = map first_vcpu guest.vcpus;
+  apics = first_apics 0 guest.vcpus;
 }
 
 unfoldable pub world_of : Image → World
@@ -60,73 +75,103 @@ world_of image = record {
 
 -- A vcpu's turn.
 
--- the address space of a guest's vcpu
-abbrev pub space_of : Registers → Space
-space_of registers = record { asid = 0; outer = Direct; paging = paging_of registers }
-
-abbrev pub way_of : Registers → Bool → Way
-way_of registers taken = record { space = space_of registers; taken = taken }
-
--- nothing is done
-abbrev pub idle : Bus → List ℕ → Vcpu → Turned
-idle bus memory vcpu = record { memory = memory; bus = bus; vcpu = vcpu; stepped = Went; told = [] }
-
--- the first work of a vcpu that is due: nothing where it is halted, else an instruction
-unfoldable pub turned : Bool → Facts → Bus → List ℕ → Vcpu → Turned
-turned taken facts bus memory vcpu =
-    if vcpu.halted then idle bus memory vcpu else play (way_of vcpu.registers taken) bus memory [] (instruction facts vcpu)
-
--- what a turn makes of the world and the bus: the end that came in it, and what it tells
+-- what a turn makes of the world and the bus: the end that came in it, the write to a port that was refused in it, and what it
+-- tells
 pub record Turn : Type 0 where
   pub world : World
   pub bus : Bus
   pub ended : Option Ended
+  pub denied : Option PortWrite
   pub told : List Told
 
 abbrev pub end_by : ℕ → ℕ → Stepped → Option Ended
-end_by index event Went = None
 end_by index event (Ends end) = Some (record { end = end; vcpu = index; event = event })
+end_by index event _ = None
+
+-- An interprocessor interrupt is accepted at once by each target: an NMI is pending, and other vectors go to the APIC.
+
+abbrev pub with_nmi : Bool → Vcpu → Vcpu
+with_nmi target vcpu = record vcpu { nmi = vcpu.nmi || target }
+
+unfoldable pub with_nmis : List Bool → List Vcpu → List Vcpu
+with_nmis [] vcpus = vcpus
+with_nmis (t ∷ targets) [] = []
+with_nmis (t ∷ targets) (vcpu ∷ vcpus) = with_nmi t vcpu ∷ with_nmis targets vcpus
+
+abbrev pub accepted_where : Bool → ℕ → Apic → Apic
+accepted_where target vector apic = if target then accepted apic vector else apic
+
+unfoldable pub all_accepted : List Bool → ℕ → List Apic → List Apic
+all_accepted [] vector apics = apics
+all_accepted (t ∷ targets) vector [] = []
+all_accepted (t ∷ targets) vector (apic ∷ apics) = accepted_where t vector apic ∷ all_accepted targets vector apics
+
+abbrev pub spread : Ipi → List Bool → Guest → Guest
+spread ipi targets guest =
+    if ipi.mode == 4 then record guest { vcpus = with_nmis targets guest.vcpus } else record guest { apics = all_accepted targets ipi.vector guest.apics }
+
+abbrev pub with_sent : Option Ipi → ℕ → Guest → Guest
+with_sent None sender guest = guest
+with_sent (Some ipi) sender guest = spread ipi (targets_of ipi sender guest.apics) guest
 
 abbrev pub guest_after : Guest → ℕ → ℕ → Turned → Guest
-guest_after guest index event turn = record {
+guest_after guest index event turn = with_sent turn.board.sent index (record {
   memory = turn.memory;
   ended = end_by index event turn.stepped;
   vcpus = slice_set guest.vcpus index turn.vcpu;
-}
+  apics = slice_set guest.apics index turn.board.apic;
+})
 
 abbrev pub no_turn : World → Bus → Turn
-no_turn w bus = record { world = w; bus = bus; ended = None; told = [] }
+no_turn w bus = record { world = w; bus = bus; ended = None; denied = None; told = [] }
 
 abbrev pub turn_done : World → Guest → VcpuId → Turned → Turn
 turn_done w guest id turn = record {
   world = record w { guests = slice_set w.guests id.guest.0 (guest_after guest id.index w.event turn) };
-  bus = turn.bus;
+  bus = turn.board.bus;
   ended = end_by id.index w.event turn.stepped;
+  denied = turn.board.denied;
   told = turn.told;
 }
 
-abbrev pub facts_of : World → VcpuId → Facts
-facts_of w id = record { vcpu = id; event = w.event }
+-- the time-stamp counter is the event's number and the vcpu's addend
+abbrev pub facts_of : World → VcpuId → Vcpu → Apic → Facts
+facts_of w id vcpu apic = record {
+  vcpu = id;
+  event = w.event;
+  tsc = (w.event + vcpu.registers.tsc_add) % 2 ^ 64;
+  apic_id = apic.id;
+  features = w.features;
+  tpr = apic.tpr;
+}
 
-abbrev pub with_vcpu : Bool → World → Bus → Guest → VcpuId → Option Vcpu → Turn
-with_vcpu taken w bus guest id None = no_turn w bus
-with_vcpu taken w bus guest id (Some vcpu) = turn_done w guest id (turned taken (facts_of w id) bus guest.memory vcpu)
+abbrev pub board_of : Bus → Apic → Board
+board_of bus apic = record { bus = bus; apic = apic; sent = None; calls = 0; denied = None }
 
-abbrev pub with_live : Bool → World → Bus → Guest → VcpuId → Option Ended → Turn
-with_live taken w bus guest id (Some ended) = no_turn w bus
-with_live taken w bus guest id None = with_vcpu taken w bus guest id (slice_get guest.vcpus id.index)
+abbrev pub with_apic : Option ℕ → World → Bus → Guest → VcpuId → Vcpu → Option Apic → Turn
+with_apic refused w bus guest id vcpu None = no_turn w bus
+with_apic refused w bus guest id vcpu (Some apic) =
+    turn_done w guest id (turned refused (facts_of w id vcpu apic) (board_of bus apic) guest.memory vcpu)
 
-abbrev pub with_guest : Bool → World → Bus → VcpuId → Option Guest → Turn
-with_guest taken w bus id None = no_turn w bus
-with_guest taken w bus id (Some guest) = with_live taken w bus guest id guest.ended
+abbrev pub with_vcpu : Option ℕ → World → Bus → Guest → VcpuId → Option Vcpu → Turn
+with_vcpu refused w bus guest id None = no_turn w bus
+with_vcpu refused w bus guest id (Some vcpu) = with_apic refused w bus guest id vcpu (slice_get guest.apics id.index)
+
+abbrev pub with_live : Option ℕ → World → Bus → Guest → VcpuId → Option Ended → Turn
+with_live refused w bus guest id (Some ended) = no_turn w bus
+with_live refused w bus guest id None = with_vcpu refused w bus guest id (slice_get guest.vcpus id.index)
+
+abbrev pub with_guest : Option ℕ → World → Bus → VcpuId → Option Guest → Turn
+with_guest refused w bus id None = no_turn w bus
+with_guest refused w bus id (Some guest) = with_live refused w bus guest id guest.ended
 
 -- the turn of a vcpu; one of an ended guest changes nothing
-abbrev pub turn_of : Bool → World → Bus → VcpuId → Turn
-turn_of taken w bus id = with_guest taken w bus id (slice_get w.guests id.guest.0)
+abbrev pub turn_of : Option ℕ → World → Bus → VcpuId → Turn
+turn_of refused w bus id = with_guest refused w bus id (slice_get w.guests id.guest.0)
 
--- the bus takes what is written to it
+-- none of its outward calls is refused
 abbrev pub plain_turn : World → Bus → VcpuId → Turn
-plain_turn = turn_of true
+plain_turn = turn_of None
 
 -- An event.
 
@@ -163,36 +208,82 @@ ran id turn = record {
   told = turn.told;
 }
 
+-- What comes from outside: a vector that an APIC accepts, and an NMI that becomes pending. An ended guest heeds neither.
+
+abbrev pub at : {A : Type 0} → ℕ → (A → A) → Option A → List A → List A
+at index change None items = items
+at index change (Some item) items = slice_set items index (change item)
+
+abbrev pub unless_ended : Option Ended → Guest → Guest → Guest
+unless_ended None guest changed = changed
+unless_ended (Some ended) guest changed = guest
+
+abbrev pub guest_with_irq : ℕ → ℕ → Guest → Guest
+guest_with_irq index vector guest =
+    unless_ended guest.ended guest (record guest { apics = at index (λ apic. accepted apic vector) (slice_get guest.apics index) guest.apics })
+
+abbrev pub guest_with_nmi : ℕ → Guest → Guest
+guest_with_nmi index guest =
+    unless_ended guest.ended guest (record guest { vcpus = at index (with_nmi true) (slice_get guest.vcpus index) guest.vcpus })
+
+abbrev pub changed_guest : World → VcpuId → (Guest → Guest) → World
+changed_guest w id change = record w { guests = at id.guest.0 change (slice_get w.guests id.guest.0) w.guests }
+
+-- at the start of each event the due timers of guests that were not ended accept
+abbrev pub guest_with_timers : ℕ → Guest → Guest
+guest_with_timers event guest =
+    unless_ended guest.ended guest (record guest { apics = map (λ apic. expired apic event) guest.apics })
+
+unfoldable pub with_timers : World → World
+with_timers w = record w { guests = map (guest_with_timers w.event) w.guests }
+
 abbrev pub run_of : World → Bus → Option (Option VcpuId) → Happened
 run_of w bus None = nothing_ran w bus
 run_of w bus (Some None) = nothing_ran w bus
 run_of w bus (Some (Some id)) = ran id (plain_turn w bus id)
 
-unfoldable pub plain_event : World → Bus → Event → Happened
-plain_event w bus (Place cpu id) = nothing_ran (placed w cpu id) bus
-plain_event w bus (Run cpu) = run_of w bus (slice_get w.placing cpu.0)
-plain_event w bus (Feed device value) = nothing_ran w (bus_after_feed bus device value)
-plain_event w bus (Unplug device) = nothing_ran w (bus_after_unplug bus device)
+-- the event, where the timers have accepted
+unfoldable pub event_of : World → Bus → Event → Happened
+event_of w bus (Place cpu id) = nothing_ran (placed w cpu id) bus
+event_of w bus (Run cpu) = run_of w bus (slice_get w.placing cpu.0)
+event_of w bus (Feed device value) = nothing_ran w (bus_after_feed bus device value)
+event_of w bus (Irq id vector) = nothing_ran (changed_guest w id (guest_with_irq id.index vector)) bus
+event_of w bus (Nmi id) = nothing_ran (changed_guest w id (guest_with_nmi id.index)) bus
+event_of w bus (Unplug device) = nothing_ran w (bus_after_unplug bus device)
+event_of w bus (Dump guest address length) = nothing_ran w bus
 
--- An event that is cut off, since the bus refused its write or its feed: what it has reached. The event is not over.
+abbrev pub plain_event : World → Bus → Event → Happened
+plain_event w bus event = event_of (with_timers w) bus event
 
-abbrev pub run_reached : World → Bus → Option (Option VcpuId) → World
-run_reached w bus None = w
-run_reached w bus (Some None) = w
-run_reached w bus (Some (Some id)) = (turn_of false w bus id).world
+-- An event that is cut off, since an outward call of its turn was refused, the one of this number, or its feed: what it has
+-- reached. The event is not over.
 
-unfoldable pub reached : World → Bus → Event → World
-reached w bus (Place cpu id) = w
-reached w bus (Run cpu) = run_reached w bus (slice_get w.placing cpu.0)
-reached w bus (Feed device value) = w
-reached w bus (Unplug device) = w
+abbrev pub run_reached : ℕ → World → Bus → Option (Option VcpuId) → World
+run_reached call w bus None = w
+run_reached call w bus (Some None) = w
+run_reached call w bus (Some (Some id)) = (turn_of (Some call) w bus id).world
 
--- the event hands something to a device or to the output: a feed, or a run whose turn writes to a port
-abbrev pub HandsOver : World → Bus → Event → Type 0
-HandsOver w bus (Place cpu id) = ⊥
-HandsOver w bus (Run cpu) = length (plain_event w bus (Run cpu)).bus.output ≡ length bus.output + 1
-HandsOver w bus (Feed device value) = Unit {0}
-HandsOver w bus (Unplug device) = ⊥
+unfoldable pub reached_of : ℕ → World → Bus → Event → World
+reached_of call w bus (Run cpu) = run_reached call w bus (slice_get w.placing cpu.0)
+reached_of call w bus _ = w
+
+abbrev pub reached : ℕ → World → Bus → Event → World
+reached call w bus event = reached_of call (with_timers w) bus event
+
+-- the outward call of this number is a write to a port
+abbrev pub IsOut : ℕ → World → Bus → Option (Option VcpuId) → Type 0
+IsOut call w bus None = ⊥
+IsOut call w bus (Some None) = ⊥
+IsOut call w bus (Some (Some id)) = (write : PortWrite) × ((turn_of (Some call) w bus id).denied ≡ Some write)
+
+-- the event hands something to a device or to the output: a feed, or a run whose turn writes to a port by this call
+unfoldable pub HandsOverOf : ℕ → World → Bus → Event → Type 0
+HandsOverOf call w bus (Run cpu) = IsOut call w bus (slice_get w.placing cpu.0)
+HandsOverOf call w bus (Feed device value) = Unit {0}
+HandsOverOf call w bus _ = ⊥
+
+abbrev pub HandsOver : ℕ → World → Bus → Event → Type 0
+HandsOver call w bus event = HandsOverOf call (with_timers w) bus event
 
 -- the end of a guest, where it was ended
 abbrev pub end_of_guest : Option Guest → Option Ended
@@ -235,7 +326,10 @@ abbrev pub IsNamed : Shape → Event → Type 0
 IsNamed shape (Place cpu id) = (cpu.0 < shape.cpus) × IsVcpu shape id
 IsNamed shape (Run cpu) = cpu.0 < shape.cpus
 IsNamed shape (Feed device value) = device < device_count
+IsNamed shape (Irq id vector) = IsVcpu shape id
+IsNamed shape (Nmi id) = IsVcpu shape id
 IsNamed shape (Unplug device) = device < device_count
+IsNamed shape (Dump guest address length) = (count : ℕ) × (slice_get shape.vcpus guest.0 ≡ Some count)
 
 -- What holds of each world.
 
@@ -255,10 +349,10 @@ pub record IsWellFormed (w : World) : Type 0 where
 abbrev pub single : Shape
 single = record { cpus = 1; vcpus = 1 ∷ [] }
 
--- the image has one processor, and one guest with one vcpu whose interrupt table is empty
+-- the image has one processor, and one guest with one vcpu
 abbrev pub is_offered_vcpu : List Registers → Bool
 is_offered_vcpu [] = false
-is_offered_vcpu (registers ∷ []) = registers.idtr.limit == 0
+is_offered_vcpu (registers ∷ []) = true
 is_offered_vcpu (a ∷ b ∷ vcpus) = false
 
 abbrev pub is_offered_guest : List ImageGuest → Bool

@@ -1,22 +1,42 @@
-//! Turns, over any way to translate.
+//! The one executor of turns, over any way to translate.
 //!
-//! A turn is the course of an instruction (`specs/Instruction.antt` of svm_model), played over a guest's memory and the bus.
-//! This is its one executor, for all machines: it is generic over a `Translator`, which may keep copies of what walks have
-//! found, and is proved once. It stands on host memory, the row table, the user rows and the port bus. The layer above uses
-//! the contract of `instruction`: for each history that the translator stands for, and where copies are kept only while its
-//! rule is kept, memory, the bus, the vcpu and the answer are those of playing the course, and the translator stands for the
-//! history with what the turn told.
+//! A turn's code is generic over what it reaches (`Reach`): each call is one step of the turn's course, so each function has one
+//! clause, that some steps lead from what the turn wanted before them to what is left of it. `GuestTurn` reaches a guest's
+//! memory by a translator, its ports and its APIC; `take_turn` is the whole turn over it, and is what machines use: memory, what
+//! stands about the vcpu, the vcpu and how the turn comes out are those of the course, played with a walk for each access.
+//! What system rows do to registers is asked through `SystemRows`. The crate stands on the rows, the delivery of events, host
+//! memory and the ports.
 #![tactic(auto)]
 
 mod accesses;
-mod execution;
+mod apics;
+mod faults;
 mod fetch;
+mod frames;
+mod guest_turn;
 mod parts;
-mod results;
+mod plans;
+mod reach;
+mod registers;
+mod system_rows;
 mod translator;
+mod turns;
+mod under;
 mod user_rows;
-mod vcpus;
+mod words;
+mod works;
 
+pub use accesses::{access, part, write_access};
+pub use apics::Apics;
+pub use faults::{deliver_event, fault, stopped};
 pub use fetch::instruction;
+pub use guest_turn::GuestTurn;
+pub use reach::Reach;
+pub use registers::{GENERAL_PROTECTION, INVALID_OPCODE};
+pub use system_rows::{SystemRows, system_row};
 pub use translator::Translator;
-pub use vcpus::Vcpu;
+pub use turns::{TurnEnd, take_turn};
+pub use under::{Alone, Under};
+pub use user_rows::user_row;
+pub use words::{Words, return_in_turn};
+pub use works::turn;

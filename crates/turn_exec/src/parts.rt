@@ -1,13 +1,13 @@
 // Translates parts of pages, and reads and writes in their frames.
-ghost use Rattle.std.specs.Prelude.{◌≡◌, ℕ, ◌+◌, ◌*◌, ◌/◌, ◌%◌, ◌^◌, ◌<◌, ◌≤◌, List, length, take, drop};
+ghost use Rattle.std.specs.Prelude.{◌≡◌, ℕ, ◌+◌, ◌*◌, ◌/◌, ◌%◌, ◌^◌, ◌<◌, ◌≤◌, List, length, take, drop, true, IfOk, OnErr};
 ghost use Rattle.svm_model.specs.Bytes.{IsWithin, SameOutside, guest_of, put_at};
-ghost use Rattle.svm_model.specs.Course.{Told, access_of, apic_frame, located, place_in, told_of};
-ghost use Rattle.turn_exec.specs.Follows.{Finds, IsInside, Needs};
+ghost use Rattle.svm_model.specs.Course.{Told, access_of, apic_frame, located, missed_at, place_in, told_of, translated};
+ghost use Rattle.turn_exec.specs.Follows.{Finds, IsInside, IsPhysical, Needs};
 
 use crate::translator::Translator;
 use host_memory::{GuestWindow, HostMemory, Steps};
 use std::sync::ledger::Ledger;
-use svm_model::{Access, End, Frame, LinearPage, Part, Space, Stepped, Translated, Walked};
+use svm_model::{Access, Frame, LinearPage, Nested, NoMemory, Outer, Part, Space, Translated};
 
 // The page of the local APIC, FEE00000h.
 const APIC_FRAME: u64 = 0xfee00;
@@ -43,7 +43,41 @@ fn access_to(part: Part) -> Access
     }
 }
 
-/// Translates a part of a page. At most four reads are counted.
+/// The address of a nested fault: that of a table entry, or of the part's first byte in its final page.
+fn missed_at(part: Part, code: u64, address: u64) -> u64
+    requires { address < 2 ^ 63 }
+    ensures { result ≡ missed_at part code address }
+{
+    if code < 0x2_0000_0000 {
+        address + part.address % 4096
+    } else {
+        address
+    }
+}
+
+/// Where a part lies, by the walk for it.
+fn place(memory: &HostMemory, window: GuestWindow, part: Part, answer: Nested) -> Translated
+    requires window { IsWithin window memory.now.bytes }
+    requires pages { window.size % 4096 ≡ 0 }
+    requires physical { IsPhysical answer }
+    ensures translated { result ≡ translated part answer (guest_of window memory.now.bytes) }
+    ensures inside { IsInside window.size result }
+{
+    match answer {
+        Nested::Leaf { leaf, .. } => locate(memory, window, leaf.frame, part),
+        Nested::Bar { .. } => Translated::OnApic,
+        Nested::PageFault { code } => Translated::Faults { code },
+        Nested::NestedFault { code, address } => Translated::NestedFault {
+            code,
+            address: missed_at(part, code, address),
+        },
+        Nested::Ended(outside) => Translated::Outside {
+            address: outside.address,
+        },
+    }
+}
+
+/// Translates a part of a page, unless its notice is refused.
 #[tactic(auto, using(svm_model::proofs::WindowLemmas::windows))]
 pub fn translate_part<T: Translator, L: Ledger>(
     translator: &mut T,
@@ -52,33 +86,23 @@ pub fn translate_part<T: Translator, L: Ledger>(
     space: &Space,
     part: Part,
     steps: &mut Steps<L>,
-) -> Translated
+) -> Result<Translated, NoMemory>
     requires window { IsWithin window memory.old.bytes }
     requires pages { window.size % 4096 ≡ 0 }
+    requires direct { space.now.outer ≡ Outer.Direct }
     ensures finds { (history : List Told) → T.stands translator.old history →
         Needs T.copies (T.rule history (told_of space.now (guest_of window memory.old.bytes) (access_of part))) →
         Finds T.stands space.now (guest_of window memory.old.bytes) part history result translator.new (guest_of window memory.new.bytes) }
-    ensures inside { IsInside window.size result }
+    ensures inside { IfOk result (λ found. IsInside window.size found) }
+    ensures refused { OnErr result (T.refuses ≡ true) }
     ensures others { SameOutside window memory.old.bytes memory.new.bytes }
-    ensures steps { steps.new ≤ steps.old + 4 }
+    ensures steps { steps.new ≤ steps.old + 28 }
     ensures later { steps.old ≤ steps.new }
 {
     match translator.translate(memory, window, space, access_to(part), steps) {
-        Walked::Leaf { leaf, .. } => locate(memory, window, leaf.frame, part),
-        Walked::PageFault { code } => Translated::Faults { code },
-        Walked::Ended(outside) => Translated::Outside {
-            address: outside.address,
-        },
+        Ok(answer) => Ok(place(memory, window, part, answer)),
+        Err(refusal) => Err(refusal),
     }
-}
-
-/// A part on the page of the APIC ends the guest.
-pub fn on_apic(address: u64) -> Stepped
-    ensures { result ≡ Stepped.Ends (End.ApicAccess (address % 4096)) }
-{
-    Stepped::Ends(End::ApicAccess {
-        offset: (address % 4096) as u16,
-    })
 }
 
 /// Reads bytes of a page, from the offset of a linear address on, by one counted read.

@@ -1,19 +1,21 @@
 // What translates the accesses of a turn.
-ghost use Rattle.std.specs.Prelude.{◌≡◌, ℕ, ◌+◌, ◌%◌, ◌≤◌, Bool, List};
+ghost use Rattle.std.specs.Prelude.{◌≡◌, ℕ, ◌+◌, ◌%◌, ◌≤◌, Bool, true, List, ◌∷◌, IfOk, OnErr};
 ghost use Rattle.svm_model.specs.Bytes.{IsWithin, SameOutside, guest_of};
-ghost use Rattle.svm_model.specs.Course.{Told, told_of};
-ghost use Rattle.svm_model.specs.PageTables.{HasFrame};
-ghost use Rattle.turn_exec.specs.Follows.{Needs, Walks};
+ghost use Rattle.svm_model.specs.Course.{Flushed, Told, told_of};
+ghost use Rattle.turn_exec.specs.Follows.{IsPhysical, Needs, Walks};
 
 use host_memory::{GuestWindow, HostMemory, Steps};
 use std::sync::ledger::Ledger;
-use svm_model::{Access, Space, Walked};
+use svm_model::{Access, Flush, Nested, NoMemory, Outer, Space};
 
-/// A way to translate accesses, which may keep copies of what walks have found.
+/// A way to translate accesses, which may keep copies of what walks have found, and tell others of each access.
 ///
 /// A history is what was told so far, the newest first. Whatever is kept stands for some of it (`stands`). Where copies are
 /// kept (`copies`), an answer is that of the walk only while the rule is kept (`rule`), which says of each access, by the
-/// history before it, whether copies that stand for that history may serve it; where none are kept, it always is.
+/// history before it, whether copies that stand for that history may serve it; where none are kept, it always is. One whom
+/// an access or a flush is told may refuse the notice, where any is told at all (`refuses`); what the walk marked stays.
+///
+/// So far no access passes through outer tables.
 pub trait Translator {
     ghost stands: { Self → List Told → Type 0 };
 
@@ -21,8 +23,9 @@ pub trait Translator {
 
     ghost rule: { List Told → Told → Bool };
 
-    /// Translates an access in a space, and sets the accessed and dirty bits of the entries that a walk of it uses. At most
-    /// four reads are counted.
+    ghost refuses: { Bool };
+
+    /// Translates an access in a space, and sets the accessed and dirty bits of the entries that a walk of it uses.
     fn translate<L: Ledger>(
         &mut self,
         memory: &mut HostMemory,
@@ -30,14 +33,21 @@ pub trait Translator {
         space: &Space,
         access: Access,
         steps: &mut Steps<L>,
-    ) -> Walked
+    ) -> Result<Nested, NoMemory>
         requires window { IsWithin window memory.old.bytes }
         requires pages { window.size % 4096 ≡ 0 }
+        requires direct { space.now.outer ≡ Outer.Direct }
         ensures walks { (history : List Told) → stands self.old history →
             Needs copies (rule history (told_of space.now (guest_of window memory.old.bytes) access)) →
             Walks stands space.now (guest_of window memory.old.bytes) access history result self.new (guest_of window memory.new.bytes) }
-        ensures frame { HasFrame result }
+        ensures physical { IfOk result IsPhysical }
+        ensures refused { OnErr result (refuses ≡ true) }
         ensures others { SameOutside window memory.old.bytes memory.new.bytes }
-        ensures steps { steps.new ≤ steps.old + 4 }
+        ensures steps { steps.new ≤ steps.old + 28 }
         ensures later { steps.old ≤ steps.new };
+
+    /// Drops copies.
+    fn flush(&mut self, flush: Flush) -> Result<(), NoMemory>
+        ensures stands { (history : List Told) → stands self.old history → stands self.new (Flushed flush ∷ history) }
+        ensures refused { OnErr result (refuses ≡ true) };
 }

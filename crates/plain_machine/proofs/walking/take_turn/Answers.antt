@@ -1,30 +1,23 @@
-use Rattle.std.proofs.Common.{◌∙◌, [], ap, sym}
-use Rattle.svm_model.specs.Guest.{Vcpu}
-use Rattle.svm_model.specs.World.{space_of}
-use Rattle.plain_machine.proofs.WalkedTurns.{needs_nothing}
+-- The turn of the executor is the plain turn.
+use Rattle.std.proofs.Common.{◌≡◌, ◌∙◌, [], tt, refl, sym, rules}
+use Rattle.plain_machine.proofs.Turning.{Taken, needs_nothing, turn-taken}
 use Rattle.plain_machine.proofs.walking.take_turn.Goals as goal
 
-pub returns-clause-vcpu : goal.returns-clause-vcpu
-returns-clause-vcpu g c =
-    let same = c.space-space.ensures ∙ ap (λ (v : Vcpu). space_of v.registers) c.vcpu.view_is in
-    rw (sym same) (c.instruction.ensures.follows [] tt (needs_nothing _)).vcpu_is
+pub returns-clause-turned : goal.returns-clause-turned
+returns-clause-turned g c =
+    let f = c.take_turn-end.ensures.follows [] tt (needs_nothing _) in
+    let taken = turn-taken _ _ _ _ _ _ _ _ _ _ _ c.space-space.ensures c.requires.outside f.memory_is f.board_is f.vcpu_is f.stepped_is in
+    let given = taken.turned_to in
+    search rules
 
-pub returns-clause-stepped : goal.returns-clause-stepped
-returns-clause-stepped g c =
-    let same = c.space-space.ensures ∙ ap (λ (v : Vcpu). space_of v.registers) c.vcpu.view_is in
-    rw (sym same) (c.instruction.ensures.follows [] tt (needs_nothing _)).stepped_is
+pub returns-clause-outside : goal.returns-clause-outside
+returns-clause-outside g c =
+    let f = c.take_turn-end.ensures.follows [] tt (needs_nothing _) in
+    (turn-taken _ _ _ _ _ _ _ _ _ _ _ c.space-space.ensures c.requires.outside f.memory_is f.board_is f.vcpu_is f.stepped_is).outside
 
-pub returns-clause-memory : goal.returns-clause-memory
-returns-clause-memory g c =
-    let same = c.space-space.ensures ∙ ap (λ (v : Vcpu). space_of v.registers) c.vcpu.view_is in
-    rw (sym same) (c.instruction.ensures.follows [] tt (needs_nothing _)).memory_is
-
-pub returns-clause-bus : goal.returns-clause-bus
-returns-clause-bus g c =
-    let same = c.space-space.ensures ∙ ap (λ (v : Vcpu). space_of v.registers) c.vcpu.view_is in
-    rw (sym same) (c.instruction.ensures.follows [] tt (needs_nothing _)).bus_is
-
-pub returns-clause-writes : goal.returns-clause-writes
-returns-clause-writes g c =
-    let same = c.space-space.ensures ∙ ap (λ (v : Vcpu). space_of v.registers) c.vcpu.view_is in
-    rw (sym same) (c.instruction.ensures.writes [] tt (needs_nothing _))
+pub returns-clause-kept : goal.returns-clause-kept
+returns-clause-kept g c =
+    let f = c.take_turn-end.ensures.follows [] tt (needs_nothing _) in
+    let taken = turn-taken _ _ _ _ _ _ _ _ _ _ _ c.space-space.ensures c.requires.outside f.memory_is f.board_is f.vcpu_is f.stepped_is in
+    let kept = taken.kept in
+    search rules

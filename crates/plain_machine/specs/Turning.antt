@@ -1,0 +1,34 @@
+-- What the turn of the one vcpu gives.
+use Rattle.std.specs.Prelude.{◌≡◌, ℕ, ◌+◌, ◌%◌, ◌^◌, List}
+use Rattle.svm_model.specs.Course.{Board, Turned}
+use Rattle.svm_model.specs.declared.names.End.TheVariants.{Mode}
+use Rattle.svm_model.specs.declared.turns.Stepped.{Stepped}
+use Rattle.svm_model.specs.declared.turns.Stepped.TheVariants.{Went, Leaves, Moves, Ends}
+use Rattle.svm_model.specs.declared.turns.Facts.{Facts}
+use Rattle.svm_model.specs.declared.vcpus.Vcpu.{Vcpu}
+use Rattle.plain_machine.specs.Single.{first_id}
+
+-- how a course comes out, where a row that moves a VMCB ends the guest
+abbrev pub settled_to : Stepped → Stepped
+settled_to Went = Went
+settled_to (Leaves exit delivering) = Leaves exit delivering
+settled_to (Moves o next_rip) = Ends (Mode 9)
+settled_to (Ends e) = Ends e
+
+-- memory, what stands about the vcpu, the vcpu and how it comes out are those of the turn
+pub record Gives (turned : Turned) (memory : List ℕ) (board : Board) (vcpu : Vcpu) (stepped : Stepped) : Type 0 where
+  pub memory_is : turned.memory ≡ memory
+  pub board_is : turned.board ≡ board
+  pub vcpu_is : turned.vcpu ≡ vcpu
+  pub stepped_is : turned.stepped ≡ stepped
+
+-- what a turn of the vcpu knows
+abbrev pub facts_in : ℕ → ℕ → Vcpu → ℕ → Facts
+facts_in event features vcpu tpr = record {
+  vcpu = first_id;
+  event = event;
+  tsc = (event + vcpu.registers.tsc_add) % 2 ^ 64;
+  apic_id = 0;
+  features = features;
+  tpr = tpr;
+}

@@ -1,0 +1,225 @@
+// A turn in its guest's memory.
+ghost use Rattle.std.specs.Prelude.{◌≡◌, ℕ, ◌+◌, ◌*◌, ◌%◌, ◌<◌, ◌≤◌, Bool, true, false, List, Option, is_some, length, IfOk, OnErr, if◌then◌else◌};
+ghost use Rattle.svm_model.specs.Bytes.{IsWithin, SameOutside, guest_of};
+ghost use Rattle.svm_model.specs.Course.{Course, frames_after, heard, is_refused, numbered};
+ghost use Rattle.svm_model.specs.declared.names.RunEnd.{RunEnd as RunEndRecord};
+ghost use Rattle.svm_model.specs.declared.page_tables.Outer.TheVariants.{Direct};
+ghost use Rattle.svm_model.specs.declared.turns.Translated.{Translated as TranslatedRecord};
+ghost use Rattle.turn_exec.specs.Follows.{AreInside, IsInside};
+ghost use Rattle.turn_exec.specs.Plays.{board_with, CallsFrom, Plays, refused_at, SameNames};
+
+use crate::apics::Apics;
+use crate::frames::frame_of;
+use crate::parts::{read_part, translate_part, write_part};
+use crate::reach::Reach;
+use crate::translator::Translator;
+use arrayvec::ArrayVec;
+use host_memory::{GuestWindow, HostMemory, Steps};
+use port_bus::Ports;
+use std::sync::ledger::Ledger;
+use svm_model::{
+    ApicAnswer, Flush, NoMemory, Part, PortWrite, RunEnd, Space, Translated, Translation,
+};
+
+/// What a turn reaches of its guest: the parts that it has translated, and where they are; and its outward calls, of which
+/// those that were granted are counted.
+#[derive(Drop)]
+pub struct GuestTurn<'t, 'm, 'b, 'a, 's, T: Translator, B: Ports, A: Apics, L: Ledger> {
+    pub translator: &'t mut T,
+    pub memory: &'m mut HostMemory,
+    pub bus: &'b mut B,
+    pub apics: &'a mut A,
+    pub steps: &'s mut Steps<L>,
+    pub window: GuestWindow,
+    pub space: Space,
+    pub frames: ArrayVec<u64, 18>,
+    pub reads: u64,
+    pub calls: u64,
+    pub refused: Option<RunEnd>,
+    pub denied: Option<PortWrite>,
+    pub ghost within: { IsWithin window memory.now.bytes },
+    pub ghost pages: { window.size % 4096 ≡ 0 },
+    pub ghost some: { 4096 ≤ window.size },
+    pub ghost inside: { AreInside window.size frames.items },
+    pub ghost direct: { space.outer ≡ Direct },
+    /// Where no notice is refused, a refusal is that of a write to a port.
+    pub ghost out: { T.refuses ≡ false → is_some refused ≡ is_some denied },
+    /// A call that is granted is allowed a read at least.
+    pub ghost few: { calls ≤ reads },
+}
+
+/// What is heard of a part whose notice may be refused: then, and behind a refusal, as if its guest ended there.
+#[tactic(auto, using(port_bus::proofs::Counts::counts, crate::proofs::Calls::calls))]
+fn hear(
+    found: Result<Translated, NoMemory>,
+    calls: &mut u64,
+    refused: &mut Option<RunEnd>,
+) -> Translated
+    requires room { calls.old ≤ 1_000_000 }
+    ensures heard { (before after : List (Option ℕ)) (last_refused : Option RunEndRecord) (last_calls : ℕ) (place : TranslatedRecord) → CallsFrom refused.new calls.new before last_refused last_calls after →
+        IfOk found (λ there. there ≡ place) → heard (is_refused (refused_at last_refused last_calls) calls.old) place ≡ result }
+    ensures counted { (before after : List (Option ℕ)) (last_refused : Option RunEndRecord) (last_calls : ℕ) → CallsFrom refused.new calls.new before last_refused last_calls after →
+        (if is_refused (refused_at last_refused last_calls) calls.old then calls.old else calls.old + 1) ≡ calls.new }
+    ensures calls { (before after : List (Option ℕ)) (last_refused : Option RunEndRecord) (last_calls : ℕ) → CallsFrom refused.new calls.new before last_refused last_calls after →
+        CallsFrom refused.old calls.old before last_refused last_calls after }
+    ensures inside { (size : ℕ) → IfOk found (λ there. IsInside size there) → IsInside size result }
+    ensures few { calls.new ≤ calls.old + 1 }
+    ensures kept { (refuses : Bool) → OnErr found (refuses ≡ true) → refuses ≡ false → is_some refused.new ≡ is_some refused.old }
+{
+    if refused.is_some() {
+        return Translated::Outside { address: 0 };
+    }
+    match found {
+        Ok(found) => {
+            *calls += 1;
+            found
+        }
+        Err(_) => {
+            *refused = Some(RunEnd::NoMemory);
+            Translated::Outside { address: 0 }
+        }
+    }
+}
+
+/// The frame of a part that is there comes behind the others.
+fn note(found: Translated, frames: &mut ArrayVec<u64, 18>)
+    requires room { length frames.old.items < 18 }
+    ensures frames { frames.new.items ≡ frames_after frames.old.items found }
+    ensures inside { (size : ℕ) → AreInside size frames.old.items → IsInside size found → AreInside size frames.new.items }
+    ensures few { length frames.new.items ≤ length frames.old.items + 1 }
+{
+    if let Translated::Here { frame } = found {
+        frames.push(frame.0);
+    }
+}
+
+/// What is learned of a part, where so many have a number.
+fn numbered(number: u8, found: Translated) -> Translation
+    ensures { result ≡ numbered number found }
+{
+    match found {
+        Translated::Here { .. } => Translation::Here { number },
+        Translated::OnApic => Translation::OnApic,
+        Translated::Faults { code } => Translation::Faults { code },
+        Translated::NestedFault { code, address } => Translation::NestedFault { code, address },
+        Translated::Outside { address } => Translation::Outside { address },
+    }
+}
+
+impl<'t, 'm, 'b, 'a, 's, T: Translator, B: Ports, A: Apics, L: Ledger> Reach for GuestTurn<'t, 'm, 'b, 'a, 's, T, B, A, L> {
+    ghost plays = { λ m course last vcpu stepped.
+        SameNames m.translator.ghost_name last.translator.ghost_name m.memory.ghost_name last.memory.ghost_name m.bus.ghost_name last.bus.ghost_name m.apics.ghost_name last.apics.ghost_name m.steps.ghost_name last.steps.ghost_name
+        × (((last.steps.now + m.reads ≤ m.steps.now + last.reads) × (m.steps.now ≤ last.steps.now))
+        × (CallsFrom m.refused m.calls (B.faults m.bus.now) last.refused last.calls (B.faults last.bus.now)
+        × Plays T.stands T.copies T.rule m.space m.window m.translator.now m.memory.now.bytes (board_with (B.bus m.bus.now) (A.apic m.apics.now) (A.sent m.apics.now) m.calls m.denied) m.frames.items course
+        last.translator.now last.memory.now.bytes (board_with (B.bus last.bus.now) (A.apic last.apics.now) (A.sent last.apics.now) last.calls last.denied) last.refused vcpu stepped)) };
+
+    ghost spent = { λ m. m.reads };
+
+    ghost parts = { λ m. length m.frames.items };
+
+    fn release(&mut self) {
+        self.frames = ArrayVec::new();
+    }
+
+    #[tactic(auto, using(svm_model::proofs::WindowLemmas::windows, crate::proofs::Hearing::on_heard))]
+    fn translate(&mut self, part: Part) -> Translation {
+        self.reads += 28;
+        let found = translate_part(
+            self.translator,
+            self.memory,
+            self.window,
+            &self.space,
+            part,
+            self.steps,
+        );
+        let found = hear(found, &mut self.calls, &mut self.refused);
+        let number = self.frames.len() as u8;
+        note(found, &mut self.frames);
+        numbered(number, found)
+    }
+
+    #[tactic(auto, using(svm_model::proofs::WindowLemmas::windows))]
+    fn read(&mut self, number: usize, address: u64, count: u8) -> [u8; 16] {
+        let frame = frame_of(&self.frames, number, self.window.size);
+        self.reads += 1;
+        read_part(self.memory, self.window, frame, address, count, self.steps)
+    }
+
+    #[tactic(auto, using(svm_model::proofs::WindowLemmas::windows))]
+    fn write(&mut self, number: usize, address: u64, bytes: &[u8]) {
+        let frame = frame_of(&self.frames, number, self.window.size);
+        write_part(self.memory, self.window, frame, address, bytes);
+    }
+
+    #[tactic(auto, using(svm_model::proofs::WindowLemmas::windows, crate::proofs::Calls::calls))]
+    fn flush(&mut self, flush: Flush) -> bool {
+        self.reads += 1;
+        let dropped = self.translator.flush(flush);
+        if self.refused.is_some() {
+            return false;
+        }
+        match dropped {
+            Ok(()) => {
+                self.calls += 1;
+                true
+            }
+            Err(_) => {
+                self.refused = Some(RunEnd::NoMemory);
+                false
+            }
+        }
+    }
+
+    #[tactic(auto, using(svm_model::proofs::WindowLemmas::windows, port_bus::proofs::Counts::counts))]
+    fn input(&mut self, port: u16, width: u8) -> u32 {
+        self.bus.read_port(port, width)
+    }
+
+    #[tactic(auto, using(svm_model::proofs::WindowLemmas::windows, crate::proofs::Calls::calls))]
+    fn output(&mut self, write: &PortWrite) -> bool {
+        self.reads += 1;
+        if self.refused.is_some() {
+            self.denied = Some(*write);
+            return false;
+        }
+        match self.bus.write_port(write) {
+            Ok(()) => {
+                self.calls += 1;
+                true
+            }
+            Err(end) => {
+                self.refused = Some(end);
+                self.denied = Some(*write);
+                false
+            }
+        }
+    }
+
+    #[tactic(auto, using(svm_model::proofs::WindowLemmas::windows, port_bus::proofs::Counts::counts))]
+    fn apic_read(&mut self, offset: u16, event: u32) -> ApicAnswer {
+        match self.apics.read(offset, event) {
+            Some(value) => ApicAnswer::Value { value },
+            None => ApicAnswer::Unoffered,
+        }
+    }
+
+    #[tactic(auto, using(svm_model::proofs::WindowLemmas::windows, port_bus::proofs::Counts::counts, crate::proofs::Calls::written))]
+    fn apic_write(&mut self, offset: u16, value: u32, event: u32) -> ApicAnswer {
+        if self.apics.write(offset, value, event) {
+            ApicAnswer::Stored
+        } else {
+            ApicAnswer::Unoffered
+        }
+    }
+
+    #[tactic(auto, using(svm_model::proofs::WindowLemmas::windows, port_bus::proofs::Counts::counts))]
+    fn take(&mut self) {
+        self.apics.take();
+    }
+
+    #[tactic(auto, using(svm_model::proofs::WindowLemmas::windows, port_bus::proofs::Counts::counts))]
+    fn set_priority(&mut self, tpr: u8) {
+        self.apics.set_priority(tpr);
+    }
+}

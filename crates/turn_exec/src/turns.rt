@@ -1,0 +1,85 @@
+// The turn of a vcpu in its guest's memory.
+ghost use Rattle.std.specs.Prelude.{◌≡◌, ◌+◌, ◌%◌, ◌≤◌, [], false, is_some, List, None};
+ghost use Rattle.port_bus.specs.Causes.{NoneFell};
+ghost use Rattle.svm_model.specs.Bytes.{IsWithin, SameOutside, guest_of};
+ghost use Rattle.svm_model.specs.Course.{Told, play};
+ghost use Rattle.svm_model.specs.Work.{turn_course};
+ghost use Rattle.turn_exec.specs.Follows.{Ensues};
+ghost use Rattle.turn_exec.specs.Plays.{board_with, IsBlamed, refused_at};
+
+use crate::apics::Apics;
+use crate::guest_turn::GuestTurn;
+use crate::system_rows::SystemRows;
+use crate::translator::Translator;
+use crate::under::Under;
+use crate::works::turn;
+use arrayvec::ArrayVec;
+use host_memory::{GuestWindow, HostMemory, Steps};
+use port_bus::Ports;
+use std::sync::ledger::Ledger;
+use svm_model::{Facts, Outer, PortWrite, RunEnd, Space, Stepped, Vcpu};
+
+/// How a turn came out, or the refusal by which it was cut off, with how many outward calls were granted.
+#[derive(Clone, Copy)]
+pub struct TurnEnd {
+    pub stepped: Stepped,
+    pub refused: Option<RunEnd>,
+    pub calls: u64,
+    /// The write to a port that was refused, where one was.
+    pub denied: Option<PortWrite>,
+}
+
+/// The turn of a vcpu over its guest's memory, where its APIC gives this vector. Where an outward call is refused, memory, what stands about the
+/// vcpu and the vcpu are those that the turn has then reached.
+pub fn take_turn<T: Translator, B: Ports, A: Apics, C: Under, R: SystemRows, L: Ledger>(
+    translator: &mut T,
+    memory: &mut HostMemory,
+    window: GuestWindow,
+    space: &Space,
+    bus: &mut B,
+    apics: &mut A,
+    control: &C,
+    facts: &Facts,
+    rows: &R,
+    vcpu: &mut Vcpu,
+    interrupt: Option<u8>,
+    steps: &mut Steps<L>,
+) -> TurnEnd
+    requires window { IsWithin window memory.old.bytes }
+    requires pages { window.size % 4096 ≡ 0 }
+    requires some { 4096 ≤ window.size }
+    requires direct { space.now.outer ≡ Outer.Direct }
+    requires alone { C.control control.now ≡ None }
+    ensures follows { (history : List Told) → T.stands translator.old history →
+        Ensues T.stands T.copies T.rule (play (record { space = space.now; refused = refused_at result.refused result.calls }) (board_with (B.bus bus.old) (A.apic apics.old) (A.sent apics.old) 0 None) (guest_of window memory.old.bytes) []
+        (turn_course (C.control control.now) facts.now vcpu.old interrupt))
+        history translator.new (guest_of window memory.new.bytes) (board_with (B.bus bus.new) (A.apic apics.new) (A.sent apics.new) result.calls result.denied) vcpu.new result.stepped }
+    ensures others { SameOutside window memory.old.bytes memory.new.bytes }
+    ensures none_fell { NoneFell (B.faults bus.old) (B.faults bus.new) }
+    ensures out { T.refuses ≡ false → is_some result.refused ≡ is_some result.denied }
+    ensures blamed { IsBlamed result.refused (B.faults bus.old) (B.faults bus.new) }
+    ensures steps { steps.new ≤ steps.old + 3262 }
+    ensures later { steps.old ≤ steps.new }
+{
+    let mut reach = GuestTurn {
+        translator,
+        memory,
+        bus,
+        apics,
+        steps,
+        window,
+        space: *space,
+        frames: ArrayVec::new(),
+        reads: 0,
+        calls: 0,
+        refused: None,
+        denied: None,
+    };
+    let stepped = turn(&mut reach, control, facts, rows, vcpu, interrupt);
+    TurnEnd {
+        stepped,
+        refused: reach.refused,
+        calls: reach.calls,
+        denied: reach.denied,
+    }
+}
