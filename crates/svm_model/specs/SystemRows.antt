@@ -13,6 +13,7 @@ use Rattle.svm_model.specs.Operands.{State, state, rax, rcx, rdx, rsp, whole_reg
 use Rattle.svm_model.specs.RegisterFile.{is_canonical, page_global}
 use Rattle.svm_model.specs.Return.{popped_flags, steps_singly}
 use Rattle.svm_model.specs.VmcbRules.{breakpoints}
+use Rattle.svm_model.specs.Sources.{names_dx}
 use Rattle.svm_model.specs.declared.names.End.TheVariants.{Mode}
 use Rattle.svm_model.specs.declared.register_file.Registers.{Registers}
 use Rattle.svm_model.specs.declared.rows.Form.{Form}
@@ -78,13 +79,6 @@ pops_flags next values s =
     else plainly (with_rflags (popped_flags s.registers (slice_index values 0)) (with_rsp (whole_register rsp s.registers + 8) (at_next next s)))
 
 -- Ports.
-
-unfoldable pub names_dx : Form → Bool
-names_dx form.InEC = true
-names_dx form.InED = true
-names_dx form.OutEE = true
-names_dx form.OutEF = true
-names_dx _ = false
 
 -- the port of IN and OUT, of 16 bits: in DX, or a byte of the instruction
 abbrev pub port_of : Row → Registers → ℕ

@@ -33,7 +33,7 @@ pub struct GuestTurn<'t, 'm, 'b, 'a, 's, T: Translator, B: Ports, A: Apics, L: L
     pub window: GuestWindow,
     pub space: Space,
     pub frames: ArrayVec<u64, 18>,
-    pub reads: u64,
+    pub spent: u64,
     pub calls: u64,
     pub refused: Option<RunEnd>,
     pub denied: Option<PortWrite>,
@@ -44,8 +44,10 @@ pub struct GuestTurn<'t, 'm, 'b, 'a, 's, T: Translator, B: Ports, A: Apics, L: L
     pub ghost direct: { space.outer ≡ Direct },
     /// Where no notice is refused, a refusal is that of a write to a port.
     pub ghost out: { T.refuses ≡ false → is_some refused ≡ is_some denied },
-    /// A call that is granted is allowed a read at least.
-    pub ghost few: { calls ≤ reads },
+    /// A call that is granted is one that may cost reads.
+    pub ghost few: { calls ≤ spent },
+    /// A translation may cost a read at least.
+    pub ghost some_cost: { 1 ≤ T.cost },
 }
 
 /// What is heard of a part whose notice may be refused: then, and behind a refusal, as if its guest ended there.
@@ -109,12 +111,12 @@ fn numbered(number: u8, found: Translated) -> Translation
 impl<'t, 'm, 'b, 'a, 's, T: Translator, B: Ports, A: Apics, L: Ledger> Reach for GuestTurn<'t, 'm, 'b, 'a, 's, T, B, A, L> {
     ghost plays = { λ m course last vcpu stepped.
         SameNames m.translator.ghost_name last.translator.ghost_name m.memory.ghost_name last.memory.ghost_name m.bus.ghost_name last.bus.ghost_name m.apics.ghost_name last.apics.ghost_name m.steps.ghost_name last.steps.ghost_name
-        × (((last.steps.now + m.reads ≤ m.steps.now + last.reads) × (m.steps.now ≤ last.steps.now))
+        × (((last.steps.now + T.cost * m.spent ≤ m.steps.now + T.cost * last.spent) × (m.steps.now ≤ last.steps.now))
         × (CallsFrom m.refused m.calls (B.faults m.bus.now) last.refused last.calls (B.faults last.bus.now)
         × Plays T.stands T.copies T.rule m.space m.window m.translator.now m.memory.now.bytes (board_with (B.bus m.bus.now) (A.apic m.apics.now) (A.sent m.apics.now) m.calls m.denied) m.frames.items course
         last.translator.now last.memory.now.bytes (board_with (B.bus last.bus.now) (A.apic last.apics.now) (A.sent last.apics.now) last.calls last.denied) last.refused vcpu stepped)) };
 
-    ghost spent = { λ m. m.reads };
+    ghost spent = { λ m. m.spent };
 
     ghost parts = { λ m. length m.frames.items };
 
@@ -124,7 +126,7 @@ impl<'t, 'm, 'b, 'a, 's, T: Translator, B: Ports, A: Apics, L: Ledger> Reach for
 
     #[tactic(auto, using(svm_model::proofs::WindowLemmas::windows, crate::proofs::Hearing::on_heard))]
     fn translate(&mut self, part: Part) -> Translation {
-        self.reads += 28;
+        self.spent += 1;
         let found = translate_part(
             self.translator,
             self.memory,
@@ -139,10 +141,10 @@ impl<'t, 'm, 'b, 'a, 's, T: Translator, B: Ports, A: Apics, L: Ledger> Reach for
         numbered(number, found)
     }
 
-    #[tactic(auto, using(svm_model::proofs::WindowLemmas::windows))]
+    #[tactic(auto, using(svm_model::proofs::WindowLemmas::windows, crate::proofs::Costs::costs))]
     fn read(&mut self, number: usize, address: u64, count: u8) -> [u8; 16] {
         let frame = frame_of(&self.frames, number, self.window.size);
-        self.reads += 1;
+        self.spent += 1;
         read_part(self.memory, self.window, frame, address, count, self.steps)
     }
 
@@ -152,9 +154,9 @@ impl<'t, 'm, 'b, 'a, 's, T: Translator, B: Ports, A: Apics, L: Ledger> Reach for
         write_part(self.memory, self.window, frame, address, bytes);
     }
 
-    #[tactic(auto, using(svm_model::proofs::WindowLemmas::windows, crate::proofs::Calls::calls))]
+    #[tactic(auto, using(svm_model::proofs::WindowLemmas::windows, crate::proofs::Calls::calls, crate::proofs::Costs::costs))]
     fn flush(&mut self, flush: Flush) -> bool {
-        self.reads += 1;
+        self.spent += 1;
         let dropped = self.translator.flush(flush);
         if self.refused.is_some() {
             return false;
@@ -176,9 +178,9 @@ impl<'t, 'm, 'b, 'a, 's, T: Translator, B: Ports, A: Apics, L: Ledger> Reach for
         self.bus.read_port(port, width)
     }
 
-    #[tactic(auto, using(svm_model::proofs::WindowLemmas::windows, crate::proofs::Calls::calls))]
+    #[tactic(auto, using(svm_model::proofs::WindowLemmas::windows, crate::proofs::Calls::calls, crate::proofs::Costs::costs))]
     fn output(&mut self, write: &PortWrite) -> bool {
-        self.reads += 1;
+        self.spent += 1;
         if self.refused.is_some() {
             self.denied = Some(*write);
             return false;

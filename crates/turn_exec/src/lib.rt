@@ -32,7 +32,6 @@ pub use faults::{deliver_event, fault, stopped};
 pub use fetch::instruction;
 pub use guest_turn::GuestTurn;
 pub use reach::Reach;
-pub use registers::{GENERAL_PROTECTION, INVALID_OPCODE};
 pub use system_rows::{SystemRows, system_row};
 pub use translator::Translator;
 pub use turns::{TurnEnd, take_turn};

@@ -96,7 +96,7 @@ pub fn translate_part<T: Translator, L: Ledger>(
     ensures inside { IfOk result (λ found. IsInside window.size found) }
     ensures refused { OnErr result (T.refuses ≡ true) }
     ensures others { SameOutside window memory.old.bytes memory.new.bytes }
-    ensures steps { steps.new ≤ steps.old + 28 }
+    ensures steps { steps.new ≤ steps.old + T.cost }
     ensures later { steps.old ≤ steps.new }
 {
     match translator.translate(memory, window, space, access_to(part), steps) {

@@ -25,6 +25,9 @@ pub trait Translator {
 
     ghost refuses: { Bool };
 
+    /// How many reads a translation makes at most.
+    ghost cost: { ℕ };
+
     /// Translates an access in a space, and sets the accessed and dirty bits of the entries that a walk of it uses.
     fn translate<L: Ledger>(
         &mut self,
@@ -43,7 +46,7 @@ pub trait Translator {
         ensures physical { IfOk result IsPhysical }
         ensures refused { OnErr result (refuses ≡ true) }
         ensures others { SameOutside window memory.old.bytes memory.new.bytes }
-        ensures steps { steps.new ≤ steps.old + 28 }
+        ensures steps { steps.new ≤ steps.old + cost }
         ensures later { steps.old ≤ steps.new };
 
     /// Drops copies.

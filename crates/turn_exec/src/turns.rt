@@ -1,5 +1,5 @@
 // The turn of a vcpu in its guest's memory.
-ghost use Rattle.std.specs.Prelude.{◌≡◌, ◌+◌, ◌%◌, ◌≤◌, [], false, is_some, List, None};
+ghost use Rattle.std.specs.Prelude.{◌*◌, ◌≡◌, ◌+◌, ◌%◌, ◌≤◌, [], false, is_some, List, None};
 ghost use Rattle.port_bus.specs.Causes.{NoneFell};
 ghost use Rattle.svm_model.specs.Bytes.{IsWithin, SameOutside, guest_of};
 ghost use Rattle.svm_model.specs.Course.{Told, play};
@@ -29,8 +29,9 @@ pub struct TurnEnd {
     pub denied: Option<PortWrite>,
 }
 
-/// The turn of a vcpu over its guest's memory, where its APIC gives this vector. Where an outward call is refused, memory, what stands about the
-/// vcpu and the vcpu are those that the turn has then reached.
+/// The turn of a vcpu over its guest's memory, where its APIC gives this vector. Where an outward call is refused, memory,
+/// what stands about the vcpu and the vcpu are those that the turn has then reached. It makes as many reads at most as 224
+/// translations cost.
 pub fn take_turn<T: Translator, B: Ports, A: Apics, C: Under, R: SystemRows, L: Ledger>(
     translator: &mut T,
     memory: &mut HostMemory,
@@ -50,6 +51,7 @@ pub fn take_turn<T: Translator, B: Ports, A: Apics, C: Under, R: SystemRows, L: 
     requires some { 4096 ≤ window.size }
     requires direct { space.now.outer ≡ Outer.Direct }
     requires alone { C.control control.now ≡ None }
+    requires cost { 1 ≤ T.cost }
     ensures follows { (history : List Told) → T.stands translator.old history →
         Ensues T.stands T.copies T.rule (play (record { space = space.now; refused = refused_at result.refused result.calls }) (board_with (B.bus bus.old) (A.apic apics.old) (A.sent apics.old) 0 None) (guest_of window memory.old.bytes) []
         (turn_course (C.control control.now) facts.now vcpu.old interrupt))
@@ -58,7 +60,7 @@ pub fn take_turn<T: Translator, B: Ports, A: Apics, C: Under, R: SystemRows, L: 
     ensures none_fell { NoneFell (B.faults bus.old) (B.faults bus.new) }
     ensures out { T.refuses ≡ false → is_some result.refused ≡ is_some result.denied }
     ensures blamed { IsBlamed result.refused (B.faults bus.old) (B.faults bus.new) }
-    ensures steps { steps.new ≤ steps.old + 3262 }
+    ensures steps { steps.new ≤ steps.old + T.cost * 224 }
     ensures later { steps.old ≤ steps.new }
 {
     let mut reach = GuestTurn {
@@ -70,7 +72,7 @@ pub fn take_turn<T: Translator, B: Ports, A: Apics, C: Under, R: SystemRows, L: 
         window,
         space: *space,
         frames: ArrayVec::new(),
-        reads: 0,
+        spent: 0,
         calls: 0,
         refused: None,
         denied: None,

@@ -67,9 +67,9 @@ fn deliver_now<M: Reach, C: Under>(
     vcpu: &mut Vcpu,
     trap: &Trap,
 ) -> Stepped
-    requires room { M.spent reach.old ≤ 960 }
+    requires room { M.spent reach.old ≤ 64 }
     ensures goes { (next : CameRecord → Course) → Goes M.plays reach.old (taken_by (C.control control.now) vcpu.old trap.now next) reach.new (next (came_to vcpu.new result)) }
-    ensures spent { M.spent reach.new ≤ M.spent reach.old + 2560 }
+    ensures spent { M.spent reach.new ≤ M.spent reach.old + 176 }
 {
     let from = vcpu.registers;
     deliver_event(reach, control, vcpu, &from, trap, 4)
@@ -77,9 +77,9 @@ fn deliver_now<M: Reach, C: Under>(
 
 /// Delivers the injection that is held, which is gone.
 fn inject<M: Reach, C: Under>(reach: &mut M, control: &C, vcpu: &mut Vcpu) -> Stepped
-    requires room { M.spent reach.old ≤ 960 }
+    requires room { M.spent reach.old ≤ 64 }
     ensures goes { (next : CameRecord → Course) → Goes M.plays reach.old (inject_course (C.control control.now) vcpu.old vcpu.old.held next) reach.new (next (came_to vcpu.new result)) }
-    ensures spent { M.spent reach.new ≤ M.spent reach.old + 2560 }
+    ensures spent { M.spent reach.new ≤ M.spent reach.old + 176 }
 {
     match vcpu.held {
         None => Stepped::Went,
@@ -93,9 +93,9 @@ fn inject<M: Reach, C: Under>(reach: &mut M, control: &C, vcpu: &mut Vcpu) -> St
 /// Takes the pending NMI.
 fn take_nmi<M: Reach, C: Under>(reach: &mut M, control: &C, vcpu: &mut Vcpu) -> Stepped
     requires alone { C.control control.now ≡ None }
-    requires room { M.spent reach.old ≤ 960 }
+    requires room { M.spent reach.old ≤ 64 }
     ensures goes { (next : CameRecord → Course) → Goes M.plays reach.old (nmi_course (C.control control.now) vcpu.old next) reach.new (next (came_to vcpu.new result)) }
-    ensures spent { M.spent reach.new ≤ M.spent reach.old + 2560 }
+    ensures spent { M.spent reach.new ≤ M.spent reach.old + 176 }
 {
     vcpu.nmi = false;
     deliver_now(reach, control, vcpu, &event(2, Cause::Nmi))
@@ -109,9 +109,9 @@ fn take_interrupt<M: Reach, C: Under>(
     interrupt: Option<u8>,
 ) -> Stepped
     requires alone { C.control control.now ≡ None }
-    requires room { M.spent reach.old ≤ 960 }
+    requires room { M.spent reach.old ≤ 64 }
     ensures goes { (next : CameRecord → Course) → Goes M.plays reach.old (interrupt_course (C.control control.now) vcpu.old interrupt next) reach.new (next (came_to vcpu.new result)) }
-    ensures spent { M.spent reach.new ≤ M.spent reach.old + 2560 }
+    ensures spent { M.spent reach.new ≤ M.spent reach.old + 176 }
 {
     match interrupt {
         None => Stepped::Went,
@@ -138,9 +138,9 @@ fn without_irq(inside: Option<Inside>) -> Option<Inside>
 /// Takes the virtual interrupt, of vector 0 where there is nothing that the turn is under.
 fn take_virtual<M: Reach, C: Under>(reach: &mut M, control: &C, vcpu: &mut Vcpu) -> Stepped
     requires alone { C.control control.now ≡ None }
-    requires room { M.spent reach.old ≤ 960 }
+    requires room { M.spent reach.old ≤ 64 }
     ensures goes { (next : CameRecord → Course) → Goes M.plays reach.old (virtual_course (C.control control.now) vcpu.old next) reach.new (next (came_to vcpu.new result)) }
-    ensures spent { M.spent reach.new ≤ M.spent reach.old + 2560 }
+    ensures spent { M.spent reach.new ≤ M.spent reach.old + 176 }
 {
     vcpu.inside = without_irq(vcpu.inside);
     deliver_now(reach, control, vcpu, &event(0, Cause::External))
@@ -158,7 +158,7 @@ fn execute<M: Reach, C: Under, R: SystemRows>(
     requires room { M.spent reach.old ≤ 0 }
     requires few { M.parts reach.old < 17 }
     ensures goes { (next : CameRecord → Course) → Goes M.plays reach.old (instruction_course (C.control control.now) facts.now vcpu.old (finished_course (C.control control.now) vcpu.old next)) reach.new (next (came_to vcpu.new result)) }
-    ensures spent { M.spent reach.new ≤ M.spent reach.old + 3262 }
+    ensures spent { M.spent reach.new ≤ M.spent reach.old + 224 }
 {
     match instruction(reach, control, facts, rows, vcpu) {
         Ok(stepped) => stepped,
@@ -168,9 +168,9 @@ fn execute<M: Reach, C: Under, R: SystemRows>(
 
 /// The turn of a vcpu: the first work that is due, where its APIC gives this vector.
 ///
-/// At most 3,262 reads are spent: 58 on the fetch of an instruction (two translations of 28, and two reads), 174 on three
-/// accesses of two parts each, 470 on a return from a handler, and 2,560 on four deliveries, of which each has ten accesses of
-/// two parts and some reads, 640.
+/// At most 224 calls may cost reads: 4 in the fetch of an instruction (two translations and two reads), 12 in three accesses
+/// of two parts each, 32 in a return from a handler, and 176 in four deliveries, of which each has ten accesses of two parts
+/// and some reads, 44.
 #[tactic(auto, unfolding(svm_model::specs::Work::course_of))]
 pub fn turn<M: Reach, C: Under, R: SystemRows>(
     reach: &mut M,
@@ -184,7 +184,7 @@ pub fn turn<M: Reach, C: Under, R: SystemRows>(
     requires room { M.spent reach.old ≤ 0 }
     requires few { M.parts reach.old < 17 }
     ensures goes { Goes M.plays reach.old (turn_course (C.control control.now) facts.now vcpu.old interrupt) reach.new (done_course (came_to vcpu.new result)) }
-    ensures spent { M.spent reach.new ≤ M.spent reach.old + 3262 }
+    ensures spent { M.spent reach.new ≤ M.spent reach.old + 224 }
 {
     match next_work(control, vcpu, interrupt) {
         Work::Inject => inject(reach, control, vcpu),
