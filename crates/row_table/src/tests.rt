@@ -109,10 +109,10 @@ macro_rules! stop {
 
 // Length, instruction, width, operands, immediate and condition of each are read off what
 // `objdump -D -w -b binary -m i386:x86-64 -M intel` prints for the bytes, which stands beside them: a branch's immediate
-// is its target less the next address, and of two registers the opcode says which one r/m names. The form is the name
-// of the opcode in the bytes.
+// is its target less the next address, and of two registers the opcode says which one r/m names; where it prints riz there
+// is no index, and the scale is 1. The form is the name of the opcode in the bytes.
 #[rattlefmt::skip]
-const ROWS: [Case; 268] = [
+const ROWS: [Case; 269] = [
     case!([0x00, 0xdb], 2, Add, Arithmetic00, W8, false, 3, (register 3), 0, 0), // add bl,bl
     case!([0x64, 0x09, 0xc5], 3, Or, Arithmetic01, W32, false, 0, (register 5), 0, 0), // fs or ebp,eax
     case!([0xf0, 0x64, 0x49, 0x12, 0xee], 5, Adc, Arithmetic02, W8, true, 5, (register 14), 0, 0), // lock fs rex.WB adc bpl,r14b

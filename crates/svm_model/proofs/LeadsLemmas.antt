@@ -1,5 +1,5 @@
 -- Where a user row leads: each one that is done goes on to the next row, or to its branch's target.
-use Rattle.std.proofs.Common.{◌≡◌, ℕ, ◌+◌, ◌%◌, ◌^◌, Bool, true, false, if◌then◌else◌, List, refl, sym, ap, ◌∙◌, Result, Ok, Err, IsTrue, slice_index}
+use Rattle.std.proofs.Common.{◌≡◌, ℕ, Bool, true, false, if◌then◌else◌, List, refl, sym, ap, ◌∙◌, Result, Ok, Err, IsTrue, slice_index}
 use Rattle.std.specs.Prelude.{nat_lt}
 use Rattle.svm_model.specs.declared.applied.Applied.TheVariants.{Done}
 use Rattle.svm_model.specs.declared.flags.NoQuotient.{NoQuotient}

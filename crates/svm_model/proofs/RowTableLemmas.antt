@@ -1,5 +1,5 @@
 -- What the table of rows says of instructions, and that its columns agree: these compute.
-use Rattle.std.proofs.Common.{◌≡◌, Bool, true, refl}
+use Rattle.std.proofs.Common.{◌≡◌, refl}
 use Rattle.std.specs.Prelude.{nat_lt}
 use Rattle.svm_model.specs.RowColumns.{ColumnsAgree, numbers_from}
 use Rattle.svm_model.specs.RowNumbers.{form_number, op_number}
