@@ -73,8 +73,8 @@ fn signed_division(
 
 /// The quotient and the remainder of a dividend of twice the width, given by its halves (volume 3, 'DIV', 'IDIV').
 ///
-/// The quotient is rounded towards zero, and the remainder has the dividend's sign. NoQuotient comes exactly where the
-/// divisor is 0 or the quotient does not fit the width. Divisions leave all flags.
+/// The quotient is rounded towards zero, and the remainder has the dividend's sign. NoQuotient is the answer for a divisor of
+/// 0 and for a quotient that has no room in the width, and only then. Divisions leave all flags.
 #[tactic(auto, unfolding(svm_model::specs::Products::division_of))]
 pub fn divide(
     width: Width,

@@ -78,8 +78,8 @@ fn extension(width: Width, signed: bool, low: u64) -> u64
     }
 }
 
-/// The low and the high half of a product of signed or unsigned operands, and the flags: CF and OF are set alike, where
-/// the high half is not the extension of the low half; the others stay as `before` (volume 3, 'MUL', 'IMUL').
+/// The low and the high half of a product of signed or unsigned operands, and the flags: CF and OF are both set where the
+/// low half, extended, is another number than the product; the others stay as `before` (volume 3, 'MUL', 'IMUL').
 #[tactic(auto, unfolding(svm_model::specs::Products::flags_of_product))]
 pub fn multiply(
     width: Width,

@@ -71,6 +71,8 @@ impl Translator for OneCopy {
 
     ghost refuses = { false };
 
+    ghost cost = { 4 };
+
     fn translate<L: Ledger>(
         &mut self,
         memory: &mut HostMemory,

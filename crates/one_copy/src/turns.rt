@@ -15,7 +15,7 @@ use std::sync::ledger::Ledger;
 use svm_model::{Facts, Outer, Space, Vcpu};
 use turn_exec::{Alone, Apics, SystemRows, Translator, TurnEnd};
 
-/// The turn of a vcpu in L1, for which the copy is dropped first, where its APIC gives no vector. At most 3,262 reads are
+/// The turn of a vcpu in L1, for which the copy is dropped first, where its APIC gives no vector. At most 896 reads are
 /// counted. Where the rule is kept within the turn, memory, what stands about the vcpu, the vcpu and the answer are those of
 /// the turn that walks for each access.
 pub fn take_turn<B: Ports, A: Apics, R: SystemRows, L: Ledger>(
@@ -40,7 +40,7 @@ pub fn take_turn<B: Ports, A: Apics, R: SystemRows, L: Ledger>(
     ensures others { SameOutside window memory.old.bytes memory.new.bytes }
     ensures none_fell { NoneFell (B.faults bus.old) (B.faults bus.new) }
     ensures blamed { IsBlamed result.refused (B.faults bus.old) (B.faults bus.new) }
-    ensures steps { steps.new ≤ steps.old + 3262 }
+    ensures steps { steps.new ≤ steps.old + 896 }
 {
     copy.drop_copy();
     turn_exec::take_turn(

@@ -114,7 +114,7 @@ impl PlainMachine {
         ensures shape { world_shape self.new.world ≡ world_shape self.old.world }
         ensures number { self.new.world.event ≡ self.old.world.event }
         ensures stopped { self.new.stopped ≡ self.old.stopped }
-        ensures steps { steps.new ≤ steps.old + 3262 }
+        ensures steps { steps.new ≤ steps.old + 896 }
         ensures later { steps.old ≤ steps.new }
     {
         if self.ended.is_some() {
@@ -219,7 +219,7 @@ impl PlainMachine {
         ensures shape { world_shape self.new.world ≡ world_shape self.old.world }
         ensures number { OnOk result (self.new.world.event ≡ self.old.world.event + 1) }
         ensures stopped { self.new.stopped ≡ self.old.stopped }
-        ensures steps { steps.new ≤ steps.old + 3262 }
+        ensures steps { steps.new ≤ steps.old + 896 }
         ensures later { steps.old ≤ steps.new }
     {
         let Some(vcpu) = self.placed_on(cpu) else {
@@ -281,7 +281,7 @@ impl PlainMachine {
         ensures shape { world_shape self.new.world ≡ world_shape self.old.world }
         ensures number { OnOk result (self.new.world.event ≡ self.old.world.event + 1) }
         ensures stopped { self.new.stopped ≡ self.old.stopped }
-        ensures steps { steps.new ≤ steps.old + 3262 }
+        ensures steps { steps.new ≤ steps.old + 896 }
         ensures later { steps.old ≤ steps.new }
     {
         match event {
@@ -298,7 +298,7 @@ impl PlainMachine {
     }
 
     /// Does one event of the schedule: places a vcpu, lets the placed vcpu take one turn, feeds a port device or unplugs it, or
-    /// hands an interrupt or an NMI to a vcpu. The turn of a guest that was ended does nothing, so an end stays. At most 3,262
+    /// hands an interrupt or an NMI to a vcpu. The turn of a guest that was ended does nothing, so an end stays. At most 896
     /// reads are counted, as many as a turn may spend. The event names what the image and the bus have, fewer than 1,048,576
     /// events came before it, and the machine is not stopped.
     ///
@@ -327,7 +327,7 @@ impl PlainMachine {
         ensures shape { world_shape self.new.world ≡ world_shape self.old.world }
         ensures well_formed { IsWellFormed self.new.world }
         ensures number { OnOk result (self.new.world.event ≡ self.old.world.event + 1) }
-        ensures steps { steps.new ≤ steps.old + 3262 }
+        ensures steps { steps.new ≤ steps.old + 896 }
         ensures later { steps.old ≤ steps.new }
     {
         self.ring_timers();

@@ -112,7 +112,7 @@ place_in frame address = 4096 * frame + address % 4096
 
 -- the frame of the APIC page, FEE00h
 abbrev pub apic_frame : ℕ
-apic_frame = 1043968
+apic_frame = 0xFEE00
 
 -- where a part lies, by its frame
 abbrev pub located : Part → ℕ → List ℕ → Translated

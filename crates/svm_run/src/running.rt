@@ -11,7 +11,7 @@ use port_bus::{Bus, BusState, RunEnd};
 use script_format::Script;
 use std::sync::ledger::Ledger;
 
-/// Runs the events of a script, all of them or up to the first that the bus refuses. At most 3,262 reads are
+/// Runs the events of a script, all of them or up to the first that the bus refuses. At most 896 reads are
 /// counted for each.
 #[tactic(auto, using(crate::proofs::Events::events, port_bus::proofs::Counts::counts))]
 pub fn run_events<L: Ledger>(
@@ -32,7 +32,7 @@ pub fn run_events<L: Ledger>(
     ensures blamed { IfErr result (λ end. Blames end (⟦<Bus as BusState>⟧.faults bus.old) (⟦<Bus as BusState>⟧.faults bus.new)) }
     ensures shape { world_shape machine.new.world ≡ world_shape machine.old.world }
     ensures number { OnOk result (machine.new.world.event ≡ script.now.events) }
-    ensures steps { steps.new ≤ steps.old + 3262 * script.now.events }
+    ensures steps { steps.new ≤ steps.old + 896 * script.now.events }
     ensures later { steps.old ≤ steps.new }
 {
     for number in 0..script.events {

@@ -18,6 +18,6 @@ invariant-loop-number g l = record {
   going : l.machine.stopped ≡ false;
   done : l.machine.world.event ≡ l.number;
   counts : NoneFell (map (λ p. option_map (λ d. (goal.PortDevice-dyn g (d.vtable, d.value)).faults d.value) p.plug) l.initial.bus.places.items) (map (λ p. option_map (λ d. (goal.PortDevice-dyn g (d.vtable, d.value)).faults d.value) p.plug) l.bus.places.items);
-  cost : l.steps ≤ l.initial.steps + 3262 * l.number;
+  cost : l.steps ≤ l.initial.steps + 896 * l.number;
   later : l.initial.steps ≤ l.steps;
 }
