@@ -3,15 +3,18 @@ ghost use Rattle.std.specs.Prelude.{◌≡◌, ◌&&◌, nat_lt, ◌*◌, ◌%�
 ghost use Rattle.port_bus.specs.Places.{IsWidth};
 ghost use Rattle.svm_model.specs.Bits.{bit};
 ghost use Rattle.svm_model.specs.Guards.{guard_of, has_svm as svm_test, is_page as page_test, is_refused_control as refused_control, is_refused_cr0 as refused_cr0, is_refused_debug as refused_debug, or_else, refusal as refusal_of_row, refusal_by, refused_where, supervisor_refusal, svm_refusal, special_operand as special_value, writes_special as writes_test};
-ghost use Rattle.svm_model.specs.Operands.{state, whole_register as whole_value};
+ghost use Rattle.svm_model.specs.Operands.{state};
 ghost use Rattle.svm_model.specs.RegisterFile.{io_privilege as privilege_of};
-ghost use Rattle.svm_model.specs.SystemRows.{executed, names_dx as dx_test, output_of as output_of_row, port_bytes as count_moved, port_of as port_of_row};
+ghost use Rattle.svm_model.specs.SystemRows.{executed, output_of as output_of_row, port_bytes as count_moved, port_of as port_of_row};
 ghost use Rattle.svm_model.specs.declared.turns.Facts.{Facts as FactsRecord};
 ghost use Rattle.turn_exec.specs.Systemic.{Fits};
 
+use register_file::whole_register;
 use row_exec::lock_is_undefined;
+use row_table::names_dx;
 use svm_model::{Before, End, Facts, Form, Op, Operand, Outside, Registers, Row, Trap, Width};
-use turn_exec::{GENERAL_PROTECTION, INVALID_OPCODE, SystemRows};
+use turn_exec::SystemRows;
+use vm_names::{GENERAL_PROTECTION, INVALID_OPCODE};
 
 /// The fault that comes before a row's intercept.
 #[tactic(auto, unfolding(svm_model::specs::Guards::guard_of))]
@@ -41,17 +44,6 @@ fn writes_special(form: Form) -> bool
     matches!(form, Form::MovCr0F22 | Form::MovDr0F23)
 }
 
-fn whole_register(registers: &Registers, index: u8) -> u64
-    ensures { result ≡ whole_value index registers.now }
-{
-    let index = usize::from(index);
-    if index < 16 {
-        registers.general[index]
-    } else {
-        0
-    }
-}
-
 /// The general register of MOV CR and MOV DR.
 fn special_operand(row: &Row, registers: &Registers) -> u64
     ensures { result ≡ special_value row.now registers.now }
@@ -74,7 +66,7 @@ fn is_refused_control(register: u8, value: u64) -> bool
     }
 }
 
-/// CR0: bits 63:32, PG without PE, NW without CD.
+/// A value that CR0 refuses: a bit above 31 is set, or PG is without PE, or NW without CD.
 fn is_refused_cr0(value: u64) -> bool
     ensures { result ≡ refused_cr0 value }
 {
@@ -183,14 +175,6 @@ fn refusal_by(before: Before, row: &Row, registers: &Registers) -> Option<Trap>
             )
         }
     }
-}
-
-/// Whether the form's port is in DX.
-#[tactic(auto, unfolding(svm_model::specs::SystemRows::names_dx))]
-fn names_dx(form: Form) -> bool
-    ensures { result ≡ dx_test form }
-{
-    matches!(form, Form::InEC | Form::InED | Form::OutEE | Form::OutEF)
 }
 
 /// The port of IN and OUT: in DX, or a byte of the instruction.
