@@ -3,8 +3,8 @@ use Rattle.std.proofs.Common.{◌≡◌, ℕ, ◌<◌, ◌==◌, Bool, true, fal
 use Rattle.std.proofs.lemmas.Bool.Decides.{nat_tests}
 use Rattle.svm_model.specs.declared.rows.Width.{Width}
 use Rattle.svm_model.specs.declared.flags.NoQuotient.{NoQuotient}
-use Rattle.svm_model.specs.Widths.{bits, bits_for, fits_signed}
-use Rattle.svm_model.specs.Products.{quotient_of, remainder_of, division_of}
+use Rattle.svm_model.specs.Instructions.Widths.{bits, bits_for, fits_signed}
+use Rattle.svm_model.specs.Instructions.Products.{quotient_of, remainder_of, division_of}
 
 if_neither : {A : Type 0} (x y : Bool) (a b : A) → x ≡ false → y ≡ true → b ≡ if x || not y then a else b
 if_neither false true a b e f = refl

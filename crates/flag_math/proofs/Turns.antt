@@ -2,7 +2,7 @@
 use Rattle.std.proofs.Common.{◌≡◌, ℕ, zero, suc, ◌-◌, ◌<◌, ap, arith}
 use Rattle.svm_model.specs.declared.rows.Width.{Width}
 use Rattle.svm_model.specs.declared.flags.ShiftKind.{ShiftKind}
-use Rattle.svm_model.specs.Shifts.{moved, moved_by}
+use Rattle.svm_model.specs.Instructions.Shifts.{moved, moved_by}
 
 pub last_turn : (w : Width) (kind : ShiftKind) (n count : ℕ) → 0 < count → moved w kind (moved_by w kind n (count - 1)) ≡ moved_by w kind n count
 unfolding moved_by

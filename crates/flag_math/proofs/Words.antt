@@ -6,8 +6,8 @@ use Rattle.std.proofs.lemmas.Bool.Decides.{nat_tests}
 use Rattle.std.specs.Int.{w128, cast_unsigned}
 use Rattle.svm_model.specs.declared.rows.Width.{Width}
 use Rattle.svm_model.specs.declared.rows.Width.TheVariants.{W8, W16, W32, W64}
-use Rattle.svm_model.specs.Widths.{bits, as_signed, bits_for}
-use Rattle.svm_model.specs.Products.{low_half, high_half}
+use Rattle.svm_model.specs.Instructions.Widths.{bits, as_signed, bits_for}
+use Rattle.svm_model.specs.Instructions.Products.{low_half, high_half}
 
 pub low_bits_of_pattern : (w : Width) (z : ℤ) → FitsSigned w128 z → cast_unsigned w128 z % 2 ^ bits w ≡ bits_for (bits w) z
 low_bits_of_pattern W8 (pos n) h = omega (arith, h.sfits)

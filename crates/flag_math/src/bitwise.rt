@@ -1,7 +1,7 @@
 // Bitwise operations (volume 3, 'AND', 'OR', 'XOR').
 ghost use Rattle.std.specs.Prelude.{◌≡◌, ◌^◌, ◌<◌};
-ghost use Rattle.svm_model.specs.Widths.{bits};
-ghost use Rattle.svm_model.specs.StatusFlags.{logic_of, flags_of_logic};
+ghost use Rattle.svm_model.specs.Instructions.Widths.{bits};
+ghost use Rattle.svm_model.specs.Instructions.StatusFlags.{logic_of, flags_of_logic};
 
 use crate::width::{has_even_parity, is_negative};
 use svm_model::{Flags, LogicKind, Width};
@@ -21,7 +21,7 @@ fn combined(width: Width, kind: LogicKind, left: u64, right: u64) -> u64
 }
 
 /// Two operands bit by bit, and the flags: CF and OF are cleared, AF stays as `before` (volume 3, 'AND', 'OR', 'XOR').
-#[tactic(auto, unfolding(svm_model::specs::StatusFlags::flags_of_logic))]
+#[tactic(auto, unfolding(svm_model::specs::Instructions::StatusFlags::flags_of_logic))]
 pub fn logic(width: Width, kind: LogicKind, left: u64, right: u64, before: Flags) -> (u64, Flags)
     requires left { left < 2 ^ bits width }
     requires right { right < 2 ^ bits width }

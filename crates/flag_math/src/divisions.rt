@@ -1,13 +1,13 @@
 // Divisions (volume 3, 'DIV', 'IDIV').
 ghost use Rattle.std.specs.Prelude.{◌≡◌, ◌^◌, ◌<◌, true, false, IfOk};
-ghost use Rattle.svm_model.specs.Widths.{bits};
-ghost use Rattle.svm_model.specs.Products.{dividend_of, division_of};
+ghost use Rattle.svm_model.specs.Instructions.Widths.{bits};
+ghost use Rattle.svm_model.specs.Instructions.Products.{dividend_of, division_of};
 
 use crate::signs::{bits_for, fits_signed, signed_modulus, signed_value};
 use crate::width::modulus;
 use svm_model::{NoQuotient, Width};
 
-#[tactic(auto, unfolding(svm_model::specs::Products::division_of))]
+#[tactic(auto, unfolding(svm_model::specs::Instructions::Products::division_of))]
 fn unsigned_division(
     width: Width,
     high: u64,
@@ -42,7 +42,7 @@ fn signed_dividend(width: Width, high: u64, low: u64) -> i128
     signed_value(width, high) * signed_modulus(width) + i128::from(low)
 }
 
-#[tactic(auto, unfolding(svm_model::specs::Products::division_of))]
+#[tactic(auto, unfolding(svm_model::specs::Instructions::Products::division_of))]
 fn signed_division(
     width: Width,
     high: u64,
@@ -75,7 +75,7 @@ fn signed_division(
 ///
 /// The quotient is rounded towards zero, and the remainder has the dividend's sign. NoQuotient is the answer for a divisor of
 /// 0 and for a quotient that has no room in the width, and only then. Divisions leave all flags.
-#[tactic(auto, unfolding(svm_model::specs::Products::division_of))]
+#[tactic(auto, unfolding(svm_model::specs::Instructions::Products::division_of))]
 pub fn divide(
     width: Width,
     signed: bool,

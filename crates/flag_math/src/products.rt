@@ -1,7 +1,7 @@
 // Multiplications (volume 3, 'MUL', 'IMUL').
 ghost use Rattle.std.specs.Prelude.{◌≡◌, ◌^◌, ◌<◌, ◌%◌, ◌/◌, true, false, ◌*ℤ◌};
-ghost use Rattle.svm_model.specs.Widths.{bits, as_signed};
-ghost use Rattle.svm_model.specs.Products.{product_of, low_half, high_half, flags_of_product, extension_of};
+ghost use Rattle.svm_model.specs.Instructions.Widths.{bits, as_signed};
+ghost use Rattle.svm_model.specs.Instructions.Products.{product_of, low_half, high_half, flags_of_product, extension_of};
 
 use crate::signs::signed_value;
 use crate::width::{high_bits, is_negative, low_bits, modulus};
@@ -20,7 +20,7 @@ fn halves(width: Width, number: u128) -> (u64, u64)
     )
 }
 
-#[tactic(auto, unfolding(svm_model::specs::Products::product_of))]
+#[tactic(auto, unfolding(svm_model::specs::Instructions::Products::product_of))]
 fn unsigned_product(width: Width, left: u64, right: u64) -> (u64, u64)
     requires left { left < 2 ^ bits width }
     requires right { right < 2 ^ bits width }
@@ -40,7 +40,7 @@ fn exact_product(width: Width, left: u64, right: u64) -> i128
     signed_value(width, left) * signed_value(width, right)
 }
 
-#[tactic(auto, using(crate::proofs::Words::low_half_of_pattern, crate::proofs::Words::high_half_of_pattern), unfolding(svm_model::specs::Products::product_of))]
+#[tactic(auto, using(crate::proofs::Words::low_half_of_pattern, crate::proofs::Words::high_half_of_pattern), unfolding(svm_model::specs::Instructions::Products::product_of))]
 fn signed_product(width: Width, left: u64, right: u64) -> (u64, u64)
     requires left { left < 2 ^ bits width }
     requires right { right < 2 ^ bits width }
@@ -80,7 +80,7 @@ fn extension(width: Width, signed: bool, low: u64) -> u64
 
 /// The low and the high half of a product of signed or unsigned operands, and the flags: CF and OF are both set where the
 /// low half, extended, is another number than the product; the others stay as `before` (volume 3, 'MUL', 'IMUL').
-#[tactic(auto, unfolding(svm_model::specs::Products::flags_of_product))]
+#[tactic(auto, unfolding(svm_model::specs::Instructions::Products::flags_of_product))]
 pub fn multiply(
     width: Width,
     signed: bool,

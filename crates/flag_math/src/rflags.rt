@@ -1,7 +1,7 @@
 // The status flags within RFLAGS (volume 1, 'Flags Register').
 ghost use Rattle.std.specs.Prelude.{◌≡◌, ◌≤◌, ◌-◌, ◌^◌, bit_and, ⊤, [], ◌∷◌, codes};
-ghost use Rattle.svm_model.specs.Bits.{bits_where};
-ghost use Rattle.svm_model.specs.Rflags.{flags_in, bits_of_flags, with_flags, status_flags};
+ghost use Rattle.svm_model.specs.Memory.Bits.{bits_where};
+ghost use Rattle.svm_model.specs.Instructions.Rflags.{flags_in, bits_of_flags, with_flags, status_flags};
 
 use bitflags::{Flag, Flags as _, bitflag_items};
 use svm_model::Flags;
@@ -45,7 +45,7 @@ impl bitflags::Flags for StatusBits {
 }
 
 /// The status flags that a value of RFLAGS has (volume 1, 'Flags Register').
-#[tactic(auto, unfolding(svm_model::specs::Rflags::flags_in))]
+#[tactic(auto, unfolding(svm_model::specs::Instructions::Rflags::flags_in))]
 pub fn flags_in(rflags: u64) -> Flags
     ensures { result ≡ flags_in rflags }
 {
@@ -67,7 +67,7 @@ fn bits_where(test: bool, bits: StatusBits) -> u64
     if test { bits.bits() } else { 0 }
 }
 
-#[tactic(auto, unfolding(svm_model::specs::Rflags::bits_of_flags))]
+#[tactic(auto, unfolding(svm_model::specs::Instructions::Rflags::bits_of_flags))]
 fn bits_of_flags(flags: Flags) -> u64
     ensures { result ≡ bits_of_flags flags }
 {
@@ -80,7 +80,7 @@ fn bits_of_flags(flags: Flags) -> u64
 }
 
 /// A value of RFLAGS with its status flags replaced. All other bits stay.
-#[tactic(auto, unfolding(svm_model::specs::Rflags::with_flags), using(svm_model::proofs::RflagsLemmas::flags_read_back, svm_model::proofs::RflagsLemmas::others_stay))]
+#[tactic(auto, unfolding(svm_model::specs::Instructions::Rflags::with_flags), using(svm_model::proofs::RflagsLemmas::flags_read_back, svm_model::proofs::RflagsLemmas::others_stay))]
 pub fn with_flags(rflags: u64, flags: Flags) -> u64
     ensures value { result ≡ with_flags rflags flags }
     ensures flags { flags_in result ≡ flags }

@@ -1,7 +1,7 @@
 // Shifts and rotations, one bit at a time (volume 3, 'ROL', 'ROR', 'SAL SHL', 'SHR', 'SAR').
 ghost use Rattle.std.specs.Prelude.{◌≡◌, ◌-◌, ◌%◌, ◌^◌, ◌<◌};
-ghost use Rattle.svm_model.specs.Widths.{bits};
-ghost use Rattle.svm_model.specs.Shifts.{shift_count, bit_out, bit_in, moved, moved_by, last_out, shift_of, overflow_of_one, overflow_after, flags_after, flags_of_shift};
+ghost use Rattle.svm_model.specs.Instructions.Widths.{bits};
+ghost use Rattle.svm_model.specs.Instructions.Shifts.{shift_count, bit_out, bit_in, moved, moved_by, last_out, shift_of, overflow_of_one, overflow_after, flags_after, flags_of_shift};
 
 use crate::width::{half, has_even_parity, is_negative};
 use svm_model::{Flags, ShiftKind, Width};
@@ -59,7 +59,7 @@ fn moved(width: Width, kind: ShiftKind, value: u64) -> u64
 }
 
 /// The operand moved by so many bits.
-#[tactic(auto, unfolding(svm_model::specs::Shifts::moved_by))]
+#[tactic(auto, unfolding(svm_model::specs::Instructions::Shifts::moved_by))]
 fn moved_by(width: Width, kind: ShiftKind, value: u64, count: u8) -> u64
     requires { value < 2 ^ bits width }
     ensures value { result ≡ moved_by width kind value count }
@@ -139,7 +139,7 @@ fn shifted(width: Width, kind: ShiftKind, value: u64, count: u8, before: Flags) 
 ///
 /// The count is taken modulo 32, or modulo 64 for 64 bits. A count of 0 sets no flag; a rotation sets CF and OF alone;
 /// AF stays, and so does OF where the count is not 1.
-#[tactic(auto, unfolding(svm_model::specs::Shifts::flags_of_shift, svm_model::specs::Shifts::moved_by))]
+#[tactic(auto, unfolding(svm_model::specs::Instructions::Shifts::flags_of_shift, svm_model::specs::Instructions::Shifts::moved_by))]
 pub fn shift(width: Width, kind: ShiftKind, value: u64, count: u8, before: Flags) -> (u64, Flags)
     requires { value < 2 ^ bits width }
     ensures value { result.0 ≡ shift_of width kind value count }

@@ -1,6 +1,6 @@
 // Operands as signed numbers.
 ghost use Rattle.std.specs.Prelude.{◌≡◌, ◌^◌, ◌<◌, ◌≤◌, pos, unsigned_abs};
-ghost use Rattle.svm_model.specs.Widths.{bits, as_signed, bits_for, fits_signed};
+ghost use Rattle.svm_model.specs.Instructions.Widths.{bits, as_signed, bits_for, fits_signed};
 
 use crate::width::{is_negative, low_bits};
 use svm_model::Width;

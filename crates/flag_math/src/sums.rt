@@ -1,7 +1,7 @@
 // Sums and differences (volume 3, 'ADC', 'SBB').
 ghost use Rattle.std.specs.Prelude.{◌≡◌, ◌^◌, ◌<◌};
-ghost use Rattle.svm_model.specs.Widths.{bits};
-ghost use Rattle.svm_model.specs.StatusFlags.{sum_overflows, difference_overflows, sum_of, flags_of_sum, difference_of, flags_of_difference};
+ghost use Rattle.svm_model.specs.Instructions.Widths.{bits};
+ghost use Rattle.svm_model.specs.Instructions.StatusFlags.{sum_overflows, difference_overflows, sum_of, flags_of_sum, difference_of, flags_of_difference};
 
 use crate::width::{has_even_parity, is_negative, low_bits, modulus};
 use svm_model::{Flags, Width};
@@ -20,7 +20,7 @@ fn sum_overflows(width: Width, left: u64, right: u64, carry: bool, value: u64) -
 }
 
 /// The sum of two operands and a carry that comes in, modulo 2^w, and its flags (volume 3, 'ADC').
-#[tactic(auto, unfolding(svm_model::specs::StatusFlags::flags_of_sum))]
+#[tactic(auto, unfolding(svm_model::specs::Instructions::StatusFlags::flags_of_sum))]
 pub fn add(width: Width, left: u64, right: u64, carry: bool) -> (u64, Flags)
     requires left { left < 2 ^ bits width }
     requires right { right < 2 ^ bits width }
@@ -55,7 +55,7 @@ fn difference_overflows(width: Width, left: u64, right: u64, borrow: bool, value
 }
 
 /// The first operand less the second and a borrow that comes in, modulo 2^w, and its flags (volume 3, 'SBB').
-#[tactic(auto, unfolding(svm_model::specs::StatusFlags::flags_of_difference))]
+#[tactic(auto, unfolding(svm_model::specs::Instructions::StatusFlags::flags_of_difference))]
 pub fn sub(width: Width, left: u64, right: u64, borrow: bool) -> (u64, Flags)
     requires left { left < 2 ^ bits width }
     requires right { right < 2 ^ bits width }

@@ -1,7 +1,7 @@
 // What a width says in numbers, and the flags that are of a result alone.
 ghost use Rattle.std.specs.Prelude.{◌≡◌, ◌-◌, ◌/◌, ◌%◌, ◌^◌, ◌<◌};
-ghost use Rattle.svm_model.specs.Widths.{bits, top_bit};
-ghost use Rattle.svm_model.specs.StatusFlags.{parity};
+ghost use Rattle.svm_model.specs.Instructions.Widths.{bits, top_bit};
+ghost use Rattle.svm_model.specs.Instructions.StatusFlags.{parity};
 
 use svm_model::Width;
 

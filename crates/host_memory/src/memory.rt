@@ -1,6 +1,6 @@
 // One run of bytes that all guests share. A guest reads and writes in its window alone.
 ghost use Rattle.std.specs.Prelude.{◌≡◌, ℕ, ◌+◌, ◌*◌, ◌^◌, ◌<◌, ◌≤◌, ◌++◌, length, take, drop, replicate, max, IfOk, IfErr, MatchResult};
-ghost use Rattle.svm_model.specs.Bytes.{IsWithin, SameOutside, guest_of, bytes_at, put_at};
+ghost use Rattle.svm_model.specs.Memory.Bytes.{IsWithin, SameOutside, guest_of, bytes_at, put_at};
 
 use crate::steps::Steps;
 use std::alloc::{AllocError, Global};
@@ -15,7 +15,7 @@ pub struct HostMemory {
 }
 
 impl Model for HostMemory {
-    ghost use Rattle.svm_model.specs.Bytes.{Host};
+    ghost use Rattle.svm_model.specs.Memory.Bytes.{Host};
 
     ghost Value = { Host };
 

@@ -1,5 +1,5 @@
 ghost use Rattle.std.specs.Prelude.{◌≡◌, ◌<◌};
-ghost use Rattle.svm_model.specs.Bytes.{IsWithin};
+ghost use Rattle.svm_model.specs.Memory.Bytes.{IsWithin};
 
 use crate::{GuestWindow, HostMemory, OutsideMemory, Steps, counted_from};
 use std::alloc::{AllocError, Global};

@@ -1,7 +1,9 @@
 -- Reading so many of a record one after the other, as a loop does.
 use Rattle.std.proofs.Common.{◌≡◌, ℕ, suc, ◌-◌, ◌+◌, ◌≤◌, ◌<◌, List, [], ◌∷◌, ◌++◌, Result, Ok, Err, refl, sym, ap, ◌∙◌, append_assoc, arith}
 use Rattle.std.proofs.lemmas.List.{append-nil}
-use Rattle.svm_model.specs.Image.{ImageFault, Source, ◌>>=◌, many_in}
+use Rattle.svm_model.specs.Formats.Image.{ImageFault}
+use Rattle.svm_model.specs.Formats.ImageBytes.{many_in}
+use Rattle.svm_model.specs.Formats.ImageFields.{Source, ◌>>=◌}
 use Rattle.image_format.specs.declared.refusal.ImageRefusal.{ImageRefusal}
 use Rattle.image_format.specs.declared.refusal.ImageRefusal.TheVariants.{Bad, NoMemory}
 use Rattle.image_format.specs.Reading.{GivesFault}

@@ -1,6 +1,7 @@
 -- What the code answers, beside what the definition says.
 use Rattle.std.specs.Prelude.{◌≡◌, Result, Ok, Err}
-use Rattle.svm_model.specs.Image.{Image, ImageFault, Source as Left}
+use Rattle.svm_model.specs.Formats.Image.{Image, ImageFault}
+use Rattle.svm_model.specs.Formats.ImageFields.{Source as Left}
 use Rattle.image_format.specs.declared.source.Source.{Source}
 use Rattle.image_format.specs.declared.refusal.ImageRefusal.{ImageRefusal}
 use Rattle.image_format.specs.declared.refusal.ImageRefusal.TheVariants.{Bad, NoMemory}

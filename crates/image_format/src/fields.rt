@@ -2,7 +2,7 @@
 
 ghost use Rattle.std.specs.Prelude.{◌≡◌};
 ghost use Rattle.std.specs.Int.{w8, w16, w32, w64};
-ghost use Rattle.svm_model.specs.Image.{bytes_in, number_in, bounded, zero_in, zeros_in, magic_in, root_in, linear_in, flags_in};
+ghost use Rattle.svm_model.specs.Formats.ImageFields.{bytes_in, number_in, bounded, zero_in, zeros_in, magic_in, root_in, linear_in, flags_in};
 ghost use Rattle.image_format.specs.Reading.{Gives, left};
 
 use crate::refusal::{ImageRefusal, refused_at};

@@ -1,7 +1,7 @@
 // A guest of an image.
 
 ghost use Rattle.std.specs.Prelude.{◌≡◌, length};
-ghost use Rattle.svm_model.specs.Image.{guest_in, many_in};
+ghost use Rattle.svm_model.specs.Formats.ImageBytes.{guest_in, many_in};
 ghost use Rattle.image_format.specs.Reading.{Gives, left};
 
 use crate::fields::{bounded_u8, bounded_u32, zero_u32, zeros_in};
@@ -14,7 +14,7 @@ use std::alloc::Global;
 use svm_model::ImageReason;
 
 /// A guest: the numbers of its vcpus, pages and segments, then the vcpus and the segments.
-#[tactic(auto, unfolding(svm_model::specs::Image::guest_in))]
+#[tactic(auto, unfolding(svm_model::specs::Formats::ImageBytes::guest_in))]
 pub fn guest_in(alloc: Global, source: Source) -> Result<(GuestImage, Source), ImageRefusal>
     ensures { Gives (λ x. (x.0, left x.1)) result (guest_in (left source.entry)) }
 {

@@ -12,7 +12,7 @@ pub struct SegmentImage {
 }
 
 impl Model for SegmentImage {
-    ghost use Rattle.svm_model.specs.Image.{ImageSegment};
+    ghost use Rattle.svm_model.specs.Formats.Image.{ImageSegment};
 
     ghost Value = { ImageSegment };
 
@@ -29,7 +29,7 @@ pub struct GuestImage {
 }
 
 impl Model for GuestImage {
-    ghost use Rattle.svm_model.specs.Image.{ImageGuest};
+    ghost use Rattle.svm_model.specs.Formats.Image.{ImageGuest};
 
     ghost Value = { ImageGuest };
 
@@ -46,7 +46,7 @@ pub struct Image {
 }
 
 impl Model for Image {
-    ghost use Rattle.svm_model.specs.Image.{Image as ImageRecord};
+    ghost use Rattle.svm_model.specs.Formats.Image.{Image as ImageRecord};
 
     ghost Value = { ImageRecord };
 

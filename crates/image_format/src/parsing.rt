@@ -1,7 +1,8 @@
 // Reads a whole image.
 
 ghost use Rattle.std.specs.Prelude.{◌≡◌, length, IfOk};
-ghost use Rattle.svm_model.specs.Image.{image_in, image_of, IsLawfulImage};
+ghost use Rattle.svm_model.specs.Formats.ImageBytes.{image_in, image_of};
+ghost use Rattle.svm_model.specs.Formats.LawfulImages.{IsLawfulImage};
 ghost use Rattle.image_format.specs.Reading.{GivesImage, left};
 
 use crate::fields::{bounded_u8, bounded_u16, magic_in, zero_u32};
@@ -16,7 +17,7 @@ use svm_model::ImageReason;
 const IMAGE_LIMIT: u32 = 67_108_864;
 
 // The magic, the version, the numbers of guests and processors, a zero, and the guests. Nothing may follow.
-#[tactic(auto, unfolding(svm_model::specs::Image::image_in))]
+#[tactic(auto, unfolding(svm_model::specs::Formats::ImageBytes::image_in))]
 fn image_in(alloc: Global, source: Source) -> Result<Image, ImageRefusal>
     ensures { GivesImage result (image_in (left source.entry)) }
 {
@@ -38,7 +39,7 @@ fn image_in(alloc: Global, source: Source) -> Result<Image, ImageRefusal>
 }
 
 // The number of the bytes is looked at before any of them.
-#[tactic(auto, unfolding(svm_model::specs::Image::image_of))]
+#[tactic(auto, unfolding(svm_model::specs::Formats::ImageBytes::image_of))]
 fn image_of(alloc: Global, bytes: &[u8]) -> Result<Image, ImageRefusal>
     ensures { GivesImage result (image_of bytes.now) }
 {

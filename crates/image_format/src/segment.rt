@@ -1,7 +1,7 @@
 // A segment of an image.
 
 ghost use Rattle.std.specs.Prelude.{◌≡◌, ◌+◌, ◌*◌, ◌&&◌, nat_le, length};
-ghost use Rattle.svm_model.specs.Image.{segment_in, many_in};
+ghost use Rattle.svm_model.specs.Formats.ImageBytes.{segment_in, many_in};
 ghost use Rattle.image_format.specs.Reading.{Gives, left};
 
 use crate::fields::{bytes_in, u32_in, u64_in, zero_u32};
@@ -21,7 +21,7 @@ fn fits(address: u64, size: u32, pages: u32) -> bool
 
 /// A segment: its address, its length, a zero and its bytes. One that is empty or goes past the guest's pages is refused
 /// at its own place, as soon as its length is read.
-#[tactic(auto, unfolding(svm_model::specs::Image::segment_in))]
+#[tactic(auto, unfolding(svm_model::specs::Formats::ImageBytes::segment_in))]
 pub fn segment_in(
     alloc: Global,
     pages: u32,

@@ -1,7 +1,8 @@
 // A vcpu of an image, as it starts.
 
 ghost use Rattle.std.specs.Prelude.{◌≡◌, length};
-ghost use Rattle.svm_model.specs.Image.{vcpu_in, table_register, start_tr, start_registers, many_in};
+ghost use Rattle.svm_model.specs.Formats.ImageBytes.{many_in};
+ghost use Rattle.svm_model.specs.Formats.ImageVcpus.{vcpu_in, table_register, start_tr, start_registers};
 ghost use Rattle.image_format.specs.Reading.{Gives, left};
 
 use crate::fields::{flags_in, linear_in, root_in, u16_in, zero_u16};
@@ -24,7 +25,7 @@ struct Start {
 }
 
 impl Model for Start {
-    ghost use Rattle.svm_model.specs.Image.{Start as StartValue};
+    ghost use Rattle.svm_model.specs.Formats.ImageVcpus.{Start as StartValue};
 
     ghost Value = { StartValue };
 
@@ -80,7 +81,7 @@ fn start_tr(base: u64, limit: u16) -> Segment
 
 // All registers: 64-bit mode with paging, CR0.WP and EFER.NXE, at CPL 0. The rest is as after a reset (volume 2,
 // 'Initial Processor State').
-#[tactic(auto, unfolding(svm_model::specs::Image::start_registers))]
+#[tactic(auto, unfolding(svm_model::specs::Formats::ImageVcpus::start_registers))]
 fn start_registers(start: Start) -> Registers
     ensures { result ≡ start_registers start }
 {
@@ -122,7 +123,7 @@ fn start_registers(start: Start) -> Registers
 }
 
 /// A vcpu: CR3, RIP, RSP, RFLAGS; the bases of GDTR, IDTR and TR; their limits; two zero bytes.
-#[tactic(auto, unfolding(svm_model::specs::Image::vcpu_in))]
+#[tactic(auto, unfolding(svm_model::specs::Formats::ImageVcpus::vcpu_in))]
 pub fn vcpu_in(source: Source) -> Result<(Registers, Source), ImageRefusal>
     ensures { Gives (λ x. (x.0, left x.1)) result (vcpu_in (left source.entry)) }
 {

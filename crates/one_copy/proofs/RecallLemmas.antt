@@ -2,9 +2,9 @@
 use Rattle.std.proofs.Common.{◌≡◌, ◌∙◌, ℕ, Bool, true, false, List, ◌∷◌, Option, Some, None, refl, ap, sym, subst}
 use Rattle.std.specs.Prelude.{◌==◌, ◌&&◌, not, if◌then◌else◌}
 use Rattle.std.proofs.lemmas.Bool.Decides.{Decides-eqb}
-use Rattle.svm_model.specs.Course.{Told, Accessed, told_of}
-use Rattle.svm_model.specs.NestedPaging.{as_nested, walked_over}
-use Rattle.svm_model.specs.PageTables.{walked}
+use Rattle.svm_model.specs.Turn.Course.{Told, Accessed, told_of}
+use Rattle.svm_model.specs.Memory.NestedPaging.{as_nested, walked_over}
+use Rattle.svm_model.specs.Memory.PageTables.{walked}
 use Rattle.svm_model.specs.declared.names.Access.{Access}
 use Rattle.svm_model.specs.declared.names.Frame.{Frame}
 use Rattle.svm_model.specs.declared.names.Kind.{Kind}

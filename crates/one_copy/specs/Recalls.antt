@@ -1,7 +1,7 @@
 -- What a history recalls of an access, and when a copy of that may serve.
 use Rattle.std.specs.Prelude.{◌≡◌, ℕ, ◌==◌, ◌&&◌, ◌||◌, not, Bool, true, false, if◌then◌else◌, List, [], ◌∷◌, Option, Some, None}
-use Rattle.svm_model.specs.Course.{Told, Accessed, Flushed, Found, Left}
-use Rattle.svm_model.specs.PageTables.{is_write, is_fetch}
+use Rattle.svm_model.specs.Turn.Course.{Told, Accessed, Flushed, Found, Left}
+use Rattle.svm_model.specs.Memory.PageEntries.{is_write, is_fetch}
 use Rattle.svm_model.specs.declared.names.Access.{Access}
 use Rattle.svm_model.specs.declared.names.Kind.{Kind}
 use Rattle.svm_model.specs.declared.names.Kind.TheVariants.{Read, Write, Fetch}

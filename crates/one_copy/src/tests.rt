@@ -1,6 +1,6 @@
 // A copy is served while it is kept, though the table that it came from is gone.
 ghost use Rattle.std.specs.Prelude.{◌≡◌, ◌<◌};
-ghost use Rattle.svm_model.specs.Bytes.{IsWithin};
+ghost use Rattle.svm_model.specs.Memory.Bytes.{IsWithin};
 
 use crate::OneCopy;
 use host_memory::{GuestWindow, HostMemory, Steps, counted_from};

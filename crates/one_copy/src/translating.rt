@@ -1,8 +1,8 @@
 // The translator that keeps one copy.
 ghost use Rattle.std.specs.Prelude.{◌≡◌, List, ◌∷◌, Bool, None, true, false};
-ghost use Rattle.svm_model.specs.Course.{Told, Accessed};
-ghost use Rattle.svm_model.specs.NestedPaging.{as_nested};
-ghost use Rattle.svm_model.specs.PageTables.{HasFrame};
+ghost use Rattle.svm_model.specs.Turn.Course.{Told, Accessed};
+ghost use Rattle.svm_model.specs.Memory.NestedPaging.{as_nested};
+ghost use Rattle.svm_model.specs.Memory.PageTables.{HasFrame};
 ghost use Rattle.svm_model.specs.declared.page_tables.Pass.{Pass};
 ghost use Rattle.one_copy.specs.Recalls.{is_kind, is_same as same_access, leaf_for, keeps, Stands};
 

@@ -1,9 +1,9 @@
 // A turn that starts with nothing kept.
 ghost use Rattle.std.specs.Prelude.{◌≡◌, ◌+◌, ◌%◌, ◌≤◌, [], None, true};
 ghost use Rattle.port_bus.specs.Causes.{NoneFell};
-ghost use Rattle.svm_model.specs.Bytes.{IsWithin, SameOutside, guest_of};
-ghost use Rattle.svm_model.specs.Course.{play};
-ghost use Rattle.svm_model.specs.Work.{turn_course};
+ghost use Rattle.svm_model.specs.Memory.Bytes.{IsWithin, SameOutside, guest_of};
+ghost use Rattle.svm_model.specs.Turn.Play.{play};
+ghost use Rattle.svm_model.specs.Turn.Work.{turn_course};
 ghost use Rattle.turn_exec.specs.Follows.{Ensues};
 ghost use Rattle.turn_exec.specs.Plays.{board_with, IsBlamed, refused_at};
 ghost use Rattle.one_copy.specs.Recalls.{keeps};

@@ -1,6 +1,6 @@
 // The bits of an entry, by the manual's names (volume 2, 'Page-Translation-Table Entry Fields').
 ghost use Rattle.std.specs.Prelude.{◌≡◌, ⊤, [], ◌∷◌, codes};
-ghost use Rattle.svm_model.specs.PageTables.{present, writable, user, accessed, dirty, page_size, global, no_execute, address, above_width, below_large, below_huge};
+ghost use Rattle.svm_model.specs.Memory.PageEntries.{present, writable, user, accessed, dirty, page_size, global, no_execute, address, above_width, below_large, below_huge};
 
 use bitflags::{Flag, Flags};
 

@@ -1,9 +1,10 @@
 // The entries of the page tables.
 ghost use Rattle.std.specs.Prelude.{◌≡◌, ℕ, ◌+◌, ◌*◌, ◌/◌, ◌%◌, ◌^◌, ◌<◌, ◌≤◌, Bool, IfOk, IfErr};
 ghost use Rattle.std.specs.Int.{w64, from_le_bytes};
-ghost use Rattle.svm_model.specs.Bits.{bits_where};
-ghost use Rattle.svm_model.specs.Bytes.{IsWithin, guest_of};
-ghost use Rattle.svm_model.specs.PageTables.{is_write, is_fetch, fault_code, index_at, is_reserved, is_leaf, checked_entry, entry_of, HasFrame};
+ghost use Rattle.svm_model.specs.Memory.Bits.{bits_where};
+ghost use Rattle.svm_model.specs.Memory.Bytes.{IsWithin, guest_of};
+ghost use Rattle.svm_model.specs.Memory.PageEntries.{is_write, is_fetch, fault_code, index_at, is_reserved, is_leaf};
+ghost use Rattle.svm_model.specs.Memory.PageTables.{checked_entry, entry_of, HasFrame};
 
 use crate::bits::EntryBits;
 use bitflags::Flags;
@@ -101,7 +102,7 @@ fn number_in(bytes: &[u8; 16]) -> u64
 }
 
 /// Reads the entry that the access uses of a table, by one read.
-#[tactic(auto, unfolding(svm_model::specs::PageTables::entry_of))]
+#[tactic(auto, unfolding(svm_model::specs::Memory::PageTables::entry_of))]
 pub fn read_entry<L: Ledger>(
     memory: &HostMemory,
     window: GuestWindow,

@@ -1,7 +1,8 @@
 // The used entries from the root down to the leaf, and what they give together.
 ghost use Rattle.std.specs.Prelude.{◌≡◌, ℕ, ◌+◌, ◌/◌, ◌^◌, ◌<◌, ◌≤◌, length, Bool, List, All, IfOk, IfErr, bit_and};
-ghost use Rattle.svm_model.specs.Bytes.{IsWithin, guest_of};
-ghost use Rattle.svm_model.specs.PageTables.{GivesPath, address, size_of, frame_in, path_of, all_have, some_has, leaf_bits, leaf_of, allows, is_changed, HasFrame};
+ghost use Rattle.svm_model.specs.Memory.Bytes.{IsWithin, guest_of};
+ghost use Rattle.svm_model.specs.Memory.PageEntries.{address};
+ghost use Rattle.svm_model.specs.Memory.PageTables.{GivesPath, size_of, frame_in, path_of, all_have, some_has, leaf_bits, leaf_of, allows, is_changed, HasFrame};
 
 use crate::bits::EntryBits;
 use crate::entry::{bits_of, ends_path, fetches, read_entry, writes};
@@ -20,7 +21,7 @@ fn address_in(bits: u64) -> u64
 }
 
 /// The entries from the root down to the leaf, by a read for each.
-#[tactic(auto, unfolding(svm_model::specs::PageTables::path_from))]
+#[tactic(auto, unfolding(svm_model::specs::Memory::PageTables::path_from))]
 pub fn path_to<L: Ledger>(
     memory: &HostMemory,
     window: GuestWindow,
@@ -107,7 +108,7 @@ fn frame_for(size: PageSize, first: u64, page: LinearPage) -> u64
 }
 
 /// The translation that the path gives.
-#[tactic(auto, unfolding(svm_model::specs::PageTables::leaf_of))]
+#[tactic(auto, unfolding(svm_model::specs::Memory::PageTables::leaf_of))]
 pub fn leaf_at(paging: &Paging, access: Access, path: &[Entry]) -> Leaf
     ensures leaf { result ≡ leaf_of paging.now access path.now }
     ensures frame { result.frame.0 < 2 ^ 28 }
@@ -127,7 +128,7 @@ pub fn leaf_at(paging: &Paging, access: Access, path: &[Entry]) -> Leaf
 }
 
 /// Whether the leaf's rights allow the access (volume 2, 'Page-Protection Checks').
-#[tactic(auto, unfolding(svm_model::specs::PageTables::allows))]
+#[tactic(auto, unfolding(svm_model::specs::Memory::PageTables::allows))]
 pub fn is_allowed(paging: &Paging, access: Access, leaf: &Leaf) -> bool
     ensures { result ≡ allows paging.now access leaf.now }
 {
@@ -138,7 +139,7 @@ pub fn is_allowed(paging: &Paging, access: Access, leaf: &Leaf) -> bool
 }
 
 /// Whether an accessed bit, or the leaf's dirty bit at a write, is still to be set.
-#[tactic(auto, unfolding(svm_model::specs::PageTables::is_changed))]
+#[tactic(auto, unfolding(svm_model::specs::Memory::PageTables::is_changed))]
 pub fn is_new(access: Access, path: &[Entry]) -> bool
     ensures { result ≡ is_changed access path.now }
 {

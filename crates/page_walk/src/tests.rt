@@ -1,6 +1,6 @@
 // Walks whose answers are worked out by hand from volume 2, 'Long-Mode Page Translation' and 'Page-Fault Exception'.
 ghost use Rattle.std.specs.Prelude.{◌≡◌, ◌<◌};
-ghost use Rattle.svm_model.specs.Bytes.{IsWithin};
+ghost use Rattle.svm_model.specs.Memory.Bytes.{IsWithin};
 
 use crate::{Leaf, PageSize, Paging, Walked, walk};
 use host_memory::{GuestWindow, HostMemory, OutsideMemory, Steps, counted_from};

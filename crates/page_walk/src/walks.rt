@@ -1,10 +1,11 @@
 // The walk: the path, the rights, and the bits that it sets.
 ghost use Rattle.std.specs.Prelude.{◌≡◌, ℕ, ◌+◌, ◌≤◌, List, All};
 ghost use Rattle.std.specs.Int.{w64, to_le_bytes};
-ghost use Rattle.svm_model.specs.Bytes.{IsWithin, SameOutside, guest_of, put_at};
-ghost use Rattle.svm_model.specs.Bits.{bits_where};
-ghost use Rattle.svm_model.specs.NestedPaging.{as_nested};
-ghost use Rattle.svm_model.specs.PageTables.{accessed, dirty, is_write, marked, HasFrame, walked};
+ghost use Rattle.svm_model.specs.Memory.Bytes.{IsWithin, SameOutside, guest_of, put_at};
+ghost use Rattle.svm_model.specs.Memory.Bits.{bits_where};
+ghost use Rattle.svm_model.specs.Memory.NestedPaging.{as_nested};
+ghost use Rattle.svm_model.specs.Memory.PageEntries.{accessed, dirty, is_write};
+ghost use Rattle.svm_model.specs.Memory.PageTables.{marked, HasFrame, walked};
 
 use crate::bits::EntryBits;
 use crate::entry::{bits_of, page_fault, writes};
@@ -39,7 +40,7 @@ fn leaf_marks(access: Access) -> EntryBits
 
 /// Writes each entry of the path back as it was read, with the accessed bit, and in the leaf of a write with the dirty
 /// bit. Entries may stand at one place where a table maps itself; the leaf is written last, so it keeps the dirty bit.
-#[tactic(auto, using(svm_model::proofs::WindowLemmas::windows), unfolding(svm_model::specs::PageTables::marked))]
+#[tactic(auto, using(svm_model::proofs::WindowLemmas::windows), unfolding(svm_model::specs::Memory::PageTables::marked))]
 fn mark(memory: &mut HostMemory, window: GuestWindow, access: Access, path: &[Entry])
     requires window { IsWithin window memory.old.bytes }
     requires inside { All (λ e. e.at + 8 ≤ window.size) path.now }
@@ -73,7 +74,7 @@ fn mark(memory: &mut HostMemory, window: GuestWindow, access: Access, path: &[En
 ///
 /// The answer is the page's leaf; or a page fault with its error code; or `Ended`, where a table entry lies outside the
 /// guest's memory, with the first such address. A fault and an end change nothing. The frame of a leaf is below 2^28.
-#[tactic(auto, using(svm_model::proofs::WindowLemmas::windows), unfolding(svm_model::specs::PageTables::walked))]
+#[tactic(auto, using(svm_model::proofs::WindowLemmas::windows), unfolding(svm_model::specs::Memory::PageTables::walked))]
 pub fn walk<L: Ledger>(
     memory: &mut HostMemory,
     window: GuestWindow,

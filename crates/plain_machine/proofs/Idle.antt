@@ -1,8 +1,9 @@
 -- An APIC that no guest reaches stays as it is.
 use Rattle.std.proofs.Common.{◌≡◌, ℕ, Bool, true, false, List, Option, Some, None, refl}
 use Rattle.std.specs.Prelude.{◌&&◌, if◌then◌else◌, nat_le}
-use Rattle.svm_model.specs.Apic.{Apic, accepted, expired, first_apic, is_accepted, is_due, pending, taken}
-use Rattle.svm_model.specs.World.{World, guest_with_irq, with_timers, changed_guest}
+use Rattle.svm_model.specs.Machine.Apic.{Apic, accepted, expired, first_apic, is_accepted, is_due, pending, taken}
+use Rattle.svm_model.specs.Machine.Events.{guest_with_irq, with_timers, changed_guest}
+use Rattle.svm_model.specs.Machine.World.{World}
 use Rattle.svm_model.specs.declared.names.Ended.{Ended}
 use Rattle.svm_model.specs.declared.names.VcpuId.{VcpuId}
 use Rattle.svm_model.specs.declared.vcpus.Vcpu.{Vcpu}

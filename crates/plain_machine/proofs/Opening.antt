@@ -1,8 +1,10 @@
 -- The world of an image with one processor, one guest and one vcpu.
 use Rattle.std.proofs.Common.{◌≡◌, ◌∙◌, ℕ, ◌+◌, ◌*◌, ◌≤◌, ◌<◌, ◌==◌, ◌&&◌, Bool, true, false, List, [], ◌∷◌, All, None, length, ap, sym, refl, arith, slice_index_or, subst}
 use Rattle.std.proofs.lemmas.Bool.Decides.{nat_tests}
-use Rattle.svm_model.specs.Image.{Image, ImageGuest, ImageSegment, IsLawfulGuest}
-use Rattle.svm_model.specs.World.{world_of, first_apics, first_guest, first_vcpu, is_offered, is_offered_guest, is_offered_vcpu}
+use Rattle.svm_model.specs.Formats.Image.{Image, ImageGuest, ImageSegment}
+use Rattle.svm_model.specs.Formats.LawfulImages.{IsLawfulGuest}
+use Rattle.svm_model.specs.Machine.Shapes.{is_offered, is_offered_guest, is_offered_vcpu}
+use Rattle.svm_model.specs.Machine.World.{world_of, first_apics, first_guest, first_vcpu}
 use Rattle.svm_model.specs.declared.register_file.Registers.{Registers}
 use Rattle.plain_machine.specs.Single.{single_world}
 

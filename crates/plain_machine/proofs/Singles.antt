@@ -1,7 +1,8 @@
 -- Worlds of one guest, one vcpu and one processor: every name is the first.
 use Rattle.std.proofs.Common.{◌≡◌, ℕ, zero, suc, ◌<◌, [], ◌∷◌, Option, Some, None, refl, arith, map, slice_get, slice_set}
-use Rattle.svm_model.specs.Guest.{level_in}
-use Rattle.svm_model.specs.World.{single, IsVcpu, without}
+use Rattle.svm_model.specs.Machine.Guest.{level_in}
+use Rattle.svm_model.specs.Machine.Events.{without}
+use Rattle.svm_model.specs.Machine.Shapes.{single, IsVcpu}
 use Rattle.svm_model.specs.declared.names.VcpuId.{VcpuId}
 use Rattle.svm_model.specs.declared.vcpus.Inside.{Inside}
 use Rattle.plain_machine.specs.Single.{first_id}

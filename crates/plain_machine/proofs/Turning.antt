@@ -1,13 +1,16 @@
 -- The turn of the one vcpu of a world.
 use Rattle.std.proofs.Common.{◌≡◌, ◌∙◌, ℕ, Bool, false, List, [], ◌∷◌, Option, Some, None, ap, sym, refl}
 use Rattle.svm_model.proofs.LastLemmas.{turn-denied, turn-outside}
-use Rattle.svm_model.specs.Bus.{Bus}
-use Rattle.svm_model.specs.Control.{space_of}
-use Rattle.svm_model.specs.Course.{Board, Told, Turned, Way, play}
-use Rattle.svm_model.specs.Apic.{Apic, pending}
-use Rattle.svm_model.specs.PlainTurn.{exited, settled, turned, turned_in, turned_under, way_of}
-use Rattle.svm_model.specs.Work.{turn_course}
-use Rattle.svm_model.specs.World.{World, Turn, board_of, end_by, turn_done, turn_of}
+use Rattle.svm_model.specs.Machine.Bus.{Bus}
+use Rattle.svm_model.specs.Turn.Control.{space_of}
+use Rattle.svm_model.specs.Turn.Course.{Board, Told, Turned, Way}
+use Rattle.svm_model.specs.Turn.Play.{play}
+use Rattle.svm_model.specs.Machine.Apic.{Apic, pending}
+use Rattle.svm_model.specs.Machine.Notices.{exited}
+use Rattle.svm_model.specs.Machine.PlainTurn.{settled, turned, turned_in, turned_under, way_of}
+use Rattle.svm_model.specs.Turn.Work.{turn_course}
+use Rattle.svm_model.specs.Machine.Turns.{Turn, board_of, end_by, turn_done, turn_of}
+use Rattle.svm_model.specs.Machine.World.{World}
 use Rattle.svm_model.specs.declared.exits.Exit.{Exit}
 use Rattle.svm_model.specs.declared.names.VcpuId.{VcpuId}
 use Rattle.svm_model.specs.declared.ports.PortWrite.{PortWrite}

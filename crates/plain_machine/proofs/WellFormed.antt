@@ -2,9 +2,10 @@
 use Rattle.std.proofs.Common.{◌≡◌, ◌∙◌, ℕ, zero, suc, ◌%◌, ◌<◌, List, [], ◌∷◌, length, Option, Some, None, ap, refl, sym, subst, arith, slice_get}
 use Rattle.std.specs.Option.{ForSome}
 use Rattle.std.proofs.lemmas.List.Elements.{All-from_recursion}
-use Rattle.svm_model.specs.Bytes.{IsWithin, guest_of}
-use Rattle.svm_model.specs.Guest.{Guest, Vcpu}
-use Rattle.svm_model.specs.World.{World, IsVcpu, IsWellFormed, single}
+use Rattle.svm_model.specs.Memory.Bytes.{IsWithin, guest_of}
+use Rattle.svm_model.specs.Machine.Guest.{Guest, Vcpu}
+use Rattle.svm_model.specs.Machine.Shapes.{IsVcpu, IsWellFormed, single}
+use Rattle.svm_model.specs.Machine.World.{World}
 use Rattle.svm_model.specs.declared.names.Ended.{Ended}
 use Rattle.svm_model.specs.declared.names.VcpuId.{VcpuId}
 use Rattle.svm_model.specs.declared.windows.GuestWindow.{GuestWindow}

@@ -1,8 +1,8 @@
 -- A world of one guest with one vcpu on one processor.
 use Rattle.std.specs.Prelude.{ℕ, List, [], ◌∷◌, Bool, Option, Some, None, slice_get}
-use Rattle.svm_model.specs.Apic.{Apic, first_apic}
-use Rattle.svm_model.specs.Guest.{Guest}
-use Rattle.svm_model.specs.World.{World}
+use Rattle.svm_model.specs.Machine.Apic.{Apic, first_apic}
+use Rattle.svm_model.specs.Machine.Guest.{Guest}
+use Rattle.svm_model.specs.Machine.World.{World}
 use Rattle.svm_model.specs.declared.names.Ended.{Ended}
 use Rattle.svm_model.specs.declared.names.GuestId.{GuestId}
 use Rattle.svm_model.specs.declared.names.VcpuId.{VcpuId}

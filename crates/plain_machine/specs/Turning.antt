@@ -1,6 +1,6 @@
 -- What the turn of the one vcpu gives.
 use Rattle.std.specs.Prelude.{◌≡◌, ℕ, ◌+◌, ◌%◌, ◌^◌, List}
-use Rattle.svm_model.specs.Course.{Board, Turned}
+use Rattle.svm_model.specs.Turn.Course.{Board, Turned}
 use Rattle.svm_model.specs.declared.names.End.TheVariants.{Mode}
 use Rattle.svm_model.specs.declared.turns.Stepped.{Stepped}
 use Rattle.svm_model.specs.declared.turns.Stepped.TheVariants.{Went, Leaves, Moves, Ends}

@@ -15,12 +15,12 @@ impl Apics for IdleApic {
 
     ghost sent = { λ a. None };
 
-    #[tactic(auto, unfolding(svm_model::specs::Apic::register_read))]
+    #[tactic(auto, unfolding(svm_model::specs::Machine::ApicRegisters::register_read))]
     fn read(&self, _offset: u16, _event: u32) -> Option<u32> {
         None
     }
 
-    #[tactic(auto, unfolding(svm_model::specs::Apic::register_written))]
+    #[tactic(auto, unfolding(svm_model::specs::Machine::ApicRegisters::register_written))]
     fn write(&mut self, _offset: u16, _value: u32, _event: u32) -> bool {
         false
     }

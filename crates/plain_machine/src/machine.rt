@@ -1,10 +1,15 @@
 // The plain machine: a world of one guest with one vcpu on one processor.
 ghost use Rattle.std.specs.Prelude.{◌≡◌, ℕ, ◌+◌, ◌*◌, ◌%◌, ◌<◌, ◌≤◌, Bool, true, false, Some, None, Err, List, [], ◌∷◌, length, is_ok, is_err, OnOk, OnErr, IfOk, IfErr, IfSome, IsTrue, slice_get, drop, take};
 ghost use Rattle.std.specs.Option.{option_map};
-ghost use Rattle.svm_model.specs.Bytes.{IsWithin, guest_of, byte_at};
-ghost use Rattle.svm_model.specs.Guest.{level_in};
-ghost use Rattle.svm_model.specs.Image.{Image as ImageRecord, IsLawfulImage, IsLawfulGuest};
-ghost use Rattle.svm_model.specs.World.{world_of, first_guest, first_vcpu, end_by, event_of, plain_event, plain_turn, turn_of, placed, changed_guest, guest_with_irq, guest_with_nmi, next_event, reached, reached_of, with_timers, world_shape, image_shape, is_offered, EndsStay, HandsOver, HandsOverOf, IsNamed, IsOut, IsVcpu, IsWellFormed};
+ghost use Rattle.svm_model.specs.Memory.Bytes.{IsWithin, guest_of, byte_at};
+ghost use Rattle.svm_model.specs.Machine.Guest.{level_in};
+ghost use Rattle.svm_model.specs.Formats.Image.{Image as ImageRecord};
+ghost use Rattle.svm_model.specs.Formats.LawfulImages.{IsLawfulImage, IsLawfulGuest};
+ghost use Rattle.svm_model.specs.Machine.Events.{event_of, plain_event, placed, changed_guest, guest_with_irq, guest_with_nmi, next_event, with_timers};
+ghost use Rattle.svm_model.specs.Machine.Runs.{reached, reached_of, EndsStay, HandsOver, HandsOverOf, IsOut};
+ghost use Rattle.svm_model.specs.Machine.Shapes.{world_shape, image_shape, is_offered, IsNamed, IsVcpu, IsWellFormed};
+ghost use Rattle.svm_model.specs.Machine.Turns.{end_by, plain_turn, turn_of};
+ghost use Rattle.svm_model.specs.Machine.World.{world_of, first_guest, first_vcpu};
 ghost use Rattle.port_bus.specs.Causes.{Blames, NoneFell};
 ghost use Rattle.plain_machine.specs.Single.{first_id, vcpu_in, guest_in, single_world};
 ghost use Rattle.plain_machine.specs.Turning.{facts_in};
@@ -40,7 +45,7 @@ pub struct PlainMachine {
 impl Model for PlainMachine {
     ghost use Rattle.std.specs.Prelude.{◌≡◌, ◌%◌, ◌≤◌, None};
     ghost use Rattle.std.specs.Option.{ForSome};
-    ghost use Rattle.svm_model.specs.Bytes.{IsWithin, guest_of};
+    ghost use Rattle.svm_model.specs.Memory.Bytes.{IsWithin, guest_of};
     ghost use Rattle.plain_machine.specs.Single.{Machine, first_id, single_world};
 
     ghost Value = { Machine };
@@ -199,7 +204,7 @@ impl PlainMachine {
     }
 
     /// A turn of the vcpu that is placed on the processor, or nothing.
-    #[tactic(auto, using(port_bus::proofs::Counts::counts), unfolding(svm_model::specs::World::event_of, svm_model::specs::World::reached_of, svm_model::specs::World::HandsOverOf))]
+    #[tactic(auto, using(port_bus::proofs::Counts::counts), unfolding(svm_model::specs::Machine::Events::event_of, svm_model::specs::Machine::Runs::reached_of, svm_model::specs::Machine::Runs::HandsOverOf))]
     fn run<L: Ledger>(
         &mut self,
         cpu: CpuId,
@@ -235,7 +240,7 @@ impl PlainMachine {
     }
 
     /// Feeds a device.
-    #[tactic(auto, using(port_bus::proofs::Counts::counts), unfolding(svm_model::specs::World::event_of, svm_model::specs::World::reached_of, svm_model::specs::World::HandsOverOf))]
+    #[tactic(auto, using(port_bus::proofs::Counts::counts), unfolding(svm_model::specs::Machine::Events::event_of, svm_model::specs::Machine::Runs::reached_of, svm_model::specs::Machine::Runs::HandsOverOf))]
     fn feed(&mut self, device: u8, value: u32, bus: &mut Bus) -> Result<Effect, Cut>
         requires named { IsNamed (world_shape self.old.world) (Event.Feed device value) }
         requires few { self.old.world.event < 1048576 }
@@ -261,7 +266,7 @@ impl PlainMachine {
     }
 
     /// What an event does, before a refusal of the bus stops the machine.
-    #[tactic(auto, using(port_bus::proofs::Counts::counts), unfolding(svm_model::specs::World::event_of, svm_model::specs::World::reached_of, svm_model::specs::World::HandsOverOf))]
+    #[tactic(auto, using(port_bus::proofs::Counts::counts), unfolding(svm_model::specs::Machine::Events::event_of, svm_model::specs::Machine::Runs::reached_of, svm_model::specs::Machine::Runs::HandsOverOf))]
     fn happen<L: Ledger>(
         &mut self,
         event: Event,
@@ -415,7 +420,7 @@ impl PlainMachine {
     }
 
     /// The machine that an image starts: the one guest's memory with its segments, its vcpu as it starts, and no vcpu placed.
-    #[tactic(auto, unfolding(svm_model::specs::World::world_of))]
+    #[tactic(auto, unfolding(svm_model::specs::Machine::World::world_of))]
     pub fn open(alloc: Global, image: &Image) -> Result<PlainMachine, NoMemory>
         requires lawful { IsLawfulImage image.now }
         requires offered { is_offered image.now ≡ true }

@@ -1,11 +1,12 @@
 // What system rows do to the registers: HLT, IN and OUT. The others end the guest, behind the faults that come first.
 ghost use Rattle.std.specs.Prelude.{◌≡◌, ◌&&◌, nat_lt, ◌*◌, ◌%◌, ◌^◌, ℕ, Bool, false, List, Ok, Option};
 ghost use Rattle.port_bus.specs.Places.{IsWidth};
-ghost use Rattle.svm_model.specs.Bits.{bit};
-ghost use Rattle.svm_model.specs.Guards.{guard_of, has_svm as svm_test, is_page as page_test, is_refused_control as refused_control, is_refused_cr0 as refused_cr0, is_refused_debug as refused_debug, or_else, refusal as refusal_of_row, refusal_by, refused_where, supervisor_refusal, svm_refusal, special_operand as special_value, writes_special as writes_test};
-ghost use Rattle.svm_model.specs.Operands.{state};
-ghost use Rattle.svm_model.specs.RegisterFile.{io_privilege as privilege_of};
-ghost use Rattle.svm_model.specs.SystemRows.{executed, output_of as output_of_row, port_bytes as count_moved, port_of as port_of_row};
+ghost use Rattle.svm_model.specs.Memory.Bits.{bit};
+ghost use Rattle.svm_model.specs.Instructions.Guards.{guard_of, has_svm as svm_test, is_page as page_test, is_refused_control as refused_control, is_refused_cr0 as refused_cr0, is_refused_debug as refused_debug, or_else, refusal as refusal_of_row, refusal_by, refused_where, supervisor_refusal, svm_refusal, special_operand as special_value, writes_special as writes_test};
+ghost use Rattle.svm_model.specs.Instructions.Operands.{state};
+ghost use Rattle.svm_model.specs.Memory.RegisterFile.{io_privilege as privilege_of};
+ghost use Rattle.svm_model.specs.Instructions.SystemRows.{executed};
+ghost use Rattle.svm_model.specs.Instructions.SystemState.{output_of as output_of_row, port_bytes as count_moved, port_of as port_of_row};
 ghost use Rattle.svm_model.specs.declared.turns.Facts.{Facts as FactsRecord};
 ghost use Rattle.turn_exec.specs.Systemic.{Fits};
 
@@ -17,7 +18,7 @@ use turn_exec::SystemRows;
 use vm_names::{GENERAL_PROTECTION, INVALID_OPCODE};
 
 /// The fault that comes before a row's intercept.
-#[tactic(auto, unfolding(svm_model::specs::Guards::guard_of))]
+#[tactic(auto, unfolding(svm_model::specs::Instructions::Guards::guard_of))]
 fn before(op: Op) -> Before
     ensures { result ≡ (guard_of op).before }
 {
@@ -37,7 +38,7 @@ fn before(op: Op) -> Before
 }
 
 /// Whether the form of MOV CR or MOV DR writes the register.
-#[tactic(auto, unfolding(svm_model::specs::Guards::writes_special))]
+#[tactic(auto, unfolding(svm_model::specs::Instructions::Guards::writes_special))]
 fn writes_special(form: Form) -> bool
     ensures { result ≡ writes_test form }
 {
@@ -134,7 +135,7 @@ fn hides_time(registers: &Registers) -> bool
 }
 
 /// The fault that comes before the intercept.
-#[tactic(auto, unfolding(svm_model::specs::Guards::refusal_by))]
+#[tactic(auto, unfolding(svm_model::specs::Instructions::Guards::refusal_by))]
 fn refusal_by(before: Before, row: &Row, registers: &Registers) -> Option<Trap>
     ensures { result ≡ refusal_by before row.now registers.now }
 {
@@ -229,7 +230,7 @@ fn refusal_of(row: &Row, registers: &Registers) -> Option<Trap>
 }
 
 /// What a row does that may be done.
-#[tactic(auto, unfolding(svm_model::specs::SystemRows::is_executed, svm_model::specs::SystemRows::system_op))]
+#[tactic(auto, unfolding(svm_model::specs::Instructions::SystemRows::is_executed, svm_model::specs::Instructions::SystemRows::system_op))]
 fn execute(row: &Row, registers: &mut Registers, next_rip: u64) -> Outside
     ensures result { (values results : List ℕ) (facts : FactsRecord) →
         executed row.now next_rip values facts (state registers.old results) ≡ Ok (record { state = state registers.new results; outside = result }) }
@@ -271,7 +272,7 @@ impl SystemRows for ExecutedRows {
         refusal_of(row, registers)
     }
 
-    #[tactic(auto, unfolding(svm_model::specs::SystemRows::system))]
+    #[tactic(auto, unfolding(svm_model::specs::Instructions::SystemRows::system))]
     fn system(
         &self,
         row: &Row,

@@ -1,7 +1,7 @@
 // The addresses of operands in memory.
 ghost use Rattle.std.specs.Prelude.{◌≡◌};
-ghost use Rattle.svm_model.specs.Operands.{register_or_zero, effective_address};
-ghost use Rattle.svm_model.specs.Addresses.{segment_base, linear_address, is_stack_register, is_on_stack};
+ghost use Rattle.svm_model.specs.Instructions.Operands.{register_or_zero, effective_address};
+ghost use Rattle.svm_model.specs.Instructions.Addresses.{segment_base, linear_address, is_stack_register, is_on_stack};
 
 use crate::general::{RBP, RSP, whole_register};
 use svm_model::{Operand, Registers};

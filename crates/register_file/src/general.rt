@@ -1,7 +1,7 @@
 // General registers by width and number (volume 1, 'Byte Registers', 'Zero-Extension of 32-Bit Results').
 ghost use Rattle.std.specs.Prelude.{◌≡◌, ◌^◌, ◌<◌, []};
-ghost use Rattle.svm_model.specs.Widths.{bits};
-ghost use Rattle.svm_model.specs.Operands.{state, part_of, merged, cut, register_value, whole_register, with_register};
+ghost use Rattle.svm_model.specs.Instructions.Widths.{bits};
+ghost use Rattle.svm_model.specs.Instructions.Operands.{state, part_of, merged, cut, register_value, whole_register, with_register};
 
 use svm_model::{Registers, Width};
 

@@ -1,7 +1,7 @@
 // The operands of a row: read and written in registers, or by planned accesses.
 ghost use Rattle.std.specs.Prelude.{◌≡◌, ◌^◌, ◌<◌};
-ghost use Rattle.svm_model.specs.Widths.{bits};
-ghost use Rattle.svm_model.specs.Operands.{state, operand_value, with_operand_at, with_operand, is_memory, register_named, upper_accumulator};
+ghost use Rattle.svm_model.specs.Instructions.Widths.{bits};
+ghost use Rattle.svm_model.specs.Instructions.Operands.{state, operand_value, with_operand_at, with_operand, is_memory, register_named, upper_accumulator};
 
 use crate::general::{cut, register_value, write_register};
 use svm_model::{Operand, Registers, Width};

@@ -1,7 +1,7 @@
 // RIP, and the flags of RFLAGS (volume 1, 'Flags Register').
 ghost use Rattle.std.specs.Prelude.{◌≡◌, []};
-ghost use Rattle.svm_model.specs.Operands.{state, flags_of, after_flags, at_rip};
-ghost use Rattle.svm_model.specs.FlagRows.{with_carry, with_direction};
+ghost use Rattle.svm_model.specs.Instructions.Operands.{state, flags_of, after_flags, at_rip};
+ghost use Rattle.svm_model.specs.Instructions.FlagRows.{with_carry, with_direction};
 
 use flag_math::{flags_in, with_flags};
 use svm_model::{Flags, Registers};

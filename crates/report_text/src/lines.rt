@@ -1,7 +1,7 @@
 // The lines of a report.
 ghost use Rattle.std.specs.Prelude.{◌≡◌, ℕ, List, ◌++◌, IfOk, string_bytes};
 ghost use Rattle.std.specs.List.{flat_map};
-ghost use Rattle.svm_model.specs.Text.{events_line, guest_line, vcpu_line, register_text, registers_text, end_name, end_value, state_name};
+ghost use Rattle.svm_model.specs.Formats.Text.{events_line, guest_line, vcpu_line, register_text, registers_text, end_name, end_value, state_name};
 
 use std::alloc::{AllocError, Global};
 use svm_model::{End, Ended, GuestId, NoMemory, Registers, VcpuId};
@@ -43,14 +43,14 @@ pub fn vcpu_text(
     Ok(text.into_bytes())
 }
 
-#[tactic(auto, unfolding(svm_model::specs::Text::events_line))]
+#[tactic(auto, unfolding(svm_model::specs::Formats::Text::events_line))]
 fn format_events(alloc: Global, count: u32) -> Result<String, AllocError>
     ensures { IfOk result (λ text. string_bytes text ≡ events_line count) }
 {
     format!(in alloc; "events {count}\n")
 }
 
-#[tactic(auto, unfolding(svm_model::specs::Text::guest_line))]
+#[tactic(auto, unfolding(svm_model::specs::Formats::Text::guest_line))]
 fn format_guest(alloc: Global, guest: u8, ended: Option<Ended>) -> Result<String, AllocError>
     ensures { IfOk result (λ text. string_bytes text ≡ guest_line guest ended) }
 {
@@ -98,7 +98,7 @@ fn name_of_state(halted: bool) -> &'static str
     if halted { "halted" } else { "ready" }
 }
 
-#[tactic(auto, unfolding(svm_model::specs::Text::vcpu_line))]
+#[tactic(auto, unfolding(svm_model::specs::Formats::Text::vcpu_line))]
 fn format_vcpu(
     alloc: Global,
     guest: u8,
@@ -117,7 +117,7 @@ fn format_vcpu(
 }
 
 /// Writes the registers that are not 0.
-#[tactic(auto, unfolding(svm_model::specs::Text::registers_text))]
+#[tactic(auto, unfolding(svm_model::specs::Formats::Text::registers_text))]
 fn push_shown(alloc: Global, text: &mut String, registers: &Registers) -> Result<(), AllocError>
     ensures { IfOk result (λ _. string_bytes text.new ≡ string_bytes text.old ++ registers_text registers.now) }
 {

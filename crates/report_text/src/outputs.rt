@@ -1,7 +1,7 @@
 // The lines of what went out by ports.
 ghost use Rattle.std.specs.Prelude.{◌≡◌, ◌++◌, IfOk, string_bytes};
 ghost use Rattle.std.specs.List.{flat_map};
-ghost use Rattle.svm_model.specs.Text.{guest_out_line, out_line, out_lines, sent_text};
+ghost use Rattle.svm_model.specs.Formats.Text.{guest_out_line, out_line, out_lines, sent_text};
 
 use std::alloc::{AllocError, Global};
 use svm_model::{GuestId, NoMemory, PortWrite};
@@ -17,7 +17,7 @@ pub fn out_text(alloc: Global, write: &PortWrite) -> Result<Vec<u8>, NoMemory>
 }
 
 /// The lines of a guest's writes to ports, in order.
-#[tactic(auto, using(std::proofs::lemmas::List::take_more, std::proofs::lemmas::List::flat_map_more), unfolding(svm_model::specs::Text::out_lines))]
+#[tactic(auto, using(std::proofs::lemmas::List::take_more, std::proofs::lemmas::List::flat_map_more), unfolding(svm_model::specs::Formats::Text::out_lines))]
 pub fn outs_text(alloc: Global, guest: GuestId, writes: &[PortWrite]) -> Result<Vec<u8>, NoMemory>
     ensures { IfOk result (λ text. text.items ≡ out_lines guest.0 writes.now) }
 {
@@ -47,7 +47,7 @@ fn push_out(
     Ok(())
 }
 
-#[tactic(auto, unfolding(svm_model::specs::Text::out_line))]
+#[tactic(auto, unfolding(svm_model::specs::Formats::Text::out_line))]
 fn format_out(alloc: Global, write: &PortWrite) -> Result<String, AllocError>
     ensures { IfOk result (λ text. string_bytes text ≡ out_line write.now) }
 {

@@ -1,6 +1,6 @@
 // The printed names of the reasons for which an image or a script is refused.
 ghost use Rattle.std.specs.Prelude.{◌≡◌, ◌≤◌, length};
-ghost use Rattle.svm_model.specs.Text.{image_reason_name as image_name, script_reason_name as script_name};
+ghost use Rattle.svm_model.specs.Formats.Text.{image_reason_name as image_name, script_reason_name as script_name};
 
 use svm_model::{ImageReason, ScriptReason};
 

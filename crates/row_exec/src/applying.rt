@@ -1,9 +1,9 @@
 // What applying a row does.
 ghost use Rattle.std.specs.Prelude.{◌≡◌, IsTrue};
-ghost use Rattle.svm_model.specs.Operands.{state};
-ghost use Rattle.svm_model.specs.Locking.{lock_is_undefined};
-ghost use Rattle.svm_model.specs.UserRows.{is_user_row};
-ghost use Rattle.svm_model.specs.Apply.{done_op, applied_op, applied, answer_of, state_after, others_of, MovesOn};
+ghost use Rattle.svm_model.specs.Instructions.Operands.{state};
+ghost use Rattle.svm_model.specs.Instructions.Locking.{lock_is_undefined};
+ghost use Rattle.svm_model.specs.Instructions.UserRows.{is_user_row};
+ghost use Rattle.svm_model.specs.Instructions.Apply.{done_op, applied_op, applied, answer_of, state_after, others_of, MovesOn};
 
 use crate::arithmetic::{
     apply_comparison, apply_decrement, apply_difference, apply_increment, apply_logic,
@@ -32,7 +32,7 @@ use vm_names::INVALID_OPCODE;
 
 /// Whether the row has a LOCK prefix where none may stand, which is #UD: its instruction takes none, or its destination
 /// is a register (volume 3, 'Lock Prefix'). Rows other than user rows take none.
-#[tactic(auto, unfolding(svm_model::specs::Locking::lock_is_undefined))]
+#[tactic(auto, unfolding(svm_model::specs::Instructions::Locking::lock_is_undefined))]
 pub fn lock_is_undefined(row: &Row) -> bool
     ensures { result ≡ lock_is_undefined row.now }
 {
@@ -40,7 +40,7 @@ pub fn lock_is_undefined(row: &Row) -> bool
 }
 
 /// Applies a row that never faults.
-#[tactic(auto, unfolding(svm_model::specs::Apply::done_op))]
+#[tactic(auto, unfolding(svm_model::specs::Instructions::Apply::done_op))]
 #[rattlefmt::skip]
 fn apply_done(row: &Row, registers: &mut Registers, next_rip: u64, values: &[u64; 8], results: &mut [u64; 8])
     ensures { state registers.new results.new ≡ done_op row.now.op row.now next_rip values.now (state registers.old results.old) }
@@ -95,7 +95,7 @@ fn apply_done(row: &Row, registers: &mut Registers, next_rip: u64, values: &[u64
     }
 }
 
-#[tactic(auto, unfolding(svm_model::specs::Apply::applied_op))]
+#[tactic(auto, unfolding(svm_model::specs::Instructions::Apply::applied_op))]
 #[rattlefmt::skip]
 fn apply_op(row: &Row, registers: &mut Registers, next_rip: u64, values: &[u64; 8], results: &mut [u64; 8]) -> Applied
     ensures answer { result ≡ answer_of (applied_op row.now.op row.now next_rip values.now (state registers.old results.old)) }
@@ -116,7 +116,7 @@ fn apply_op(row: &Row, registers: &mut Registers, next_rip: u64, values: &[u64; 
 }
 
 /// Applies a row, or refuses its LOCK prefix.
-#[tactic(auto, unfolding(svm_model::specs::Apply::applied))]
+#[tactic(auto, unfolding(svm_model::specs::Instructions::Apply::applied))]
 fn apply_row(
     row: &Row,
     registers: &mut Registers,

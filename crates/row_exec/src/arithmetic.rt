@@ -1,7 +1,7 @@
 // Rows of arithmetic and logic.
 ghost use Rattle.std.specs.Prelude.{◌≡◌};
-ghost use Rattle.svm_model.specs.Operands.{state};
-ghost use Rattle.svm_model.specs.Arithmetic.{adds, subtracts, compares, combines, tests_bits, not_inverts, negates, increments, decrements};
+ghost use Rattle.svm_model.specs.Instructions.Operands.{state};
+ghost use Rattle.svm_model.specs.Instructions.Arithmetic.{adds, subtracts, compares, combines, tests_bits, not_inverts, negates, increments, decrements};
 
 use crate::sources::{destination, destination_value, source_value};
 use crate::widths::ones;
@@ -10,7 +10,7 @@ use register_file::{operand_value, read_flags, write_flags, write_operand, write
 use svm_model::{Flags, LogicKind, Registers, Row};
 
 /// ADD, and ADC with CF as the carry.
-#[tactic(auto, unfolding(svm_model::specs::Arithmetic::adds))]
+#[tactic(auto, unfolding(svm_model::specs::Instructions::Arithmetic::adds))]
 pub fn apply_sum(
     carry: bool,
     row: &Row,
@@ -30,7 +30,7 @@ pub fn apply_sum(
 }
 
 /// SUB, and SBB with CF as the borrow.
-#[tactic(auto, unfolding(svm_model::specs::Arithmetic::subtracts))]
+#[tactic(auto, unfolding(svm_model::specs::Instructions::Arithmetic::subtracts))]
 pub fn apply_difference(
     borrow: bool,
     row: &Row,
@@ -50,7 +50,7 @@ pub fn apply_difference(
 }
 
 /// CMP.
-#[tactic(auto, unfolding(svm_model::specs::Arithmetic::compares))]
+#[tactic(auto, unfolding(svm_model::specs::Instructions::Arithmetic::compares))]
 pub fn apply_comparison(
     row: &Row,
     registers: &mut Registers,
@@ -68,7 +68,7 @@ pub fn apply_comparison(
 }
 
 /// AND, OR and XOR.
-#[tactic(auto, unfolding(svm_model::specs::Arithmetic::combines))]
+#[tactic(auto, unfolding(svm_model::specs::Instructions::Arithmetic::combines))]
 pub fn apply_logic(
     kind: LogicKind,
     row: &Row,
@@ -89,7 +89,7 @@ pub fn apply_logic(
 }
 
 /// TEST.
-#[tactic(auto, unfolding(svm_model::specs::Arithmetic::tests_bits))]
+#[tactic(auto, unfolding(svm_model::specs::Instructions::Arithmetic::tests_bits))]
 pub fn apply_test(
     row: &Row,
     registers: &mut Registers,
@@ -108,7 +108,7 @@ pub fn apply_test(
 }
 
 /// NOT.
-#[tactic(auto, unfolding(svm_model::specs::Arithmetic::not_inverts))]
+#[tactic(auto, unfolding(svm_model::specs::Instructions::Arithmetic::not_inverts))]
 pub fn apply_not(
     row: &Row,
     registers: &mut Registers,
@@ -125,7 +125,7 @@ pub fn apply_not(
 }
 
 /// NEG.
-#[tactic(auto, unfolding(svm_model::specs::Arithmetic::negates))]
+#[tactic(auto, unfolding(svm_model::specs::Instructions::Arithmetic::negates))]
 pub fn apply_negation(
     row: &Row,
     registers: &mut Registers,
@@ -143,7 +143,7 @@ pub fn apply_negation(
 }
 
 /// INC.
-#[tactic(auto, unfolding(svm_model::specs::Arithmetic::increments))]
+#[tactic(auto, unfolding(svm_model::specs::Instructions::Arithmetic::increments))]
 pub fn apply_increment(
     row: &Row,
     registers: &mut Registers,
@@ -162,7 +162,7 @@ pub fn apply_increment(
 }
 
 /// DEC.
-#[tactic(auto, unfolding(svm_model::specs::Arithmetic::decrements))]
+#[tactic(auto, unfolding(svm_model::specs::Instructions::Arithmetic::decrements))]
 pub fn apply_decrement(
     row: &Row,
     registers: &mut Registers,

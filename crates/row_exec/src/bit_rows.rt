@@ -1,7 +1,7 @@
 // Rows that test bits, and rows that exchange.
 ghost use Rattle.std.specs.Prelude.{◌≡◌};
-ghost use Rattle.svm_model.specs.Operands.{state};
-ghost use Rattle.svm_model.specs.BitRows.{selected_bit, changed_bit, written_back, bt_copies_bit, changes_bit, exchanges, exchanges_and_adds, compares_and_exchanges};
+ghost use Rattle.svm_model.specs.Instructions.Operands.{state};
+ghost use Rattle.svm_model.specs.Instructions.BitRows.{selected_bit, changed_bit, written_back, bt_copies_bit, changes_bit, exchanges, exchanges_and_adds, compares_and_exchanges};
 
 use crate::sources::source_value;
 use crate::widths::bit_count;
@@ -21,7 +21,7 @@ fn selected_bit(row: &Row, registers: &Registers, values: &[u64; 8]) -> u64
 }
 
 /// BT.
-#[tactic(auto, unfolding(svm_model::specs::BitRows::bt_copies_bit))]
+#[tactic(auto, unfolding(svm_model::specs::Instructions::BitRows::bt_copies_bit))]
 pub fn apply_bit_test(
     row: &Row,
     registers: &mut Registers,
@@ -50,7 +50,7 @@ fn changed_bit(op: Op, value: u64, bit: u64) -> u64
 }
 
 /// BTS, BTR and BTC.
-#[tactic(auto, unfolding(svm_model::specs::BitRows::changes_bit))]
+#[tactic(auto, unfolding(svm_model::specs::Instructions::BitRows::changes_bit))]
 pub fn apply_bit_change(
     op: Op,
     row: &Row,
@@ -70,7 +70,7 @@ pub fn apply_bit_change(
 }
 
 /// XCHG.
-#[tactic(auto, unfolding(svm_model::specs::BitRows::exchanges))]
+#[tactic(auto, unfolding(svm_model::specs::Instructions::BitRows::exchanges))]
 pub fn apply_exchange(
     row: &Row,
     registers: &mut Registers,
@@ -89,7 +89,7 @@ pub fn apply_exchange(
 }
 
 /// XADD.
-#[tactic(auto, unfolding(svm_model::specs::BitRows::exchanges_and_adds))]
+#[tactic(auto, unfolding(svm_model::specs::Instructions::BitRows::exchanges_and_adds))]
 pub fn apply_exchange_and_add(
     row: &Row,
     registers: &mut Registers,
@@ -120,7 +120,7 @@ fn write_back(row: &Row, value: u64, registers: &mut Registers, results: &mut [u
 }
 
 /// CMPXCHG.
-#[tactic(auto, unfolding(svm_model::specs::BitRows::compares_and_exchanges))]
+#[tactic(auto, unfolding(svm_model::specs::Instructions::BitRows::compares_and_exchanges))]
 pub fn apply_compare_and_exchange(
     row: &Row,
     registers: &mut Registers,

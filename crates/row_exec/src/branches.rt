@@ -1,8 +1,8 @@
 // Rows of the stack and branches.
 ghost use Rattle.std.specs.Prelude.{◌≡◌, ◌<◌, ◌≤◌, []};
-ghost use Rattle.svm_model.specs.Operands.{state};
-ghost use Rattle.svm_model.specs.Apply.{answer_of, state_after};
-ghost use Rattle.svm_model.specs.Branches.{with_rsp, pushed, popped, stack_place, operand_or, pushes, pops, leaves, branched, target_of, jumps, jumps_where, calls, returns};
+ghost use Rattle.svm_model.specs.Instructions.Operands.{state};
+ghost use Rattle.svm_model.specs.Instructions.Apply.{answer_of, state_after};
+ghost use Rattle.svm_model.specs.Instructions.Branches.{with_rsp, pushed, popped, stack_place, operand_or, pushes, pops, leaves, branched, target_of, jumps, jumps_where, calls, returns};
 
 use crate::conditions::condition_holds;
 use register_file::{
@@ -57,7 +57,7 @@ fn operand_or(other: u64, operand: Operand, registers: &Registers, values: &[u64
 }
 
 /// PUSH.
-#[tactic(auto, unfolding(svm_model::specs::Branches::pushes))]
+#[tactic(auto, unfolding(svm_model::specs::Instructions::Branches::pushes))]
 pub fn apply_push(
     row: &Row,
     registers: &mut Registers,
@@ -73,7 +73,7 @@ pub fn apply_push(
 }
 
 /// POP.
-#[tactic(auto, unfolding(svm_model::specs::Branches::pops))]
+#[tactic(auto, unfolding(svm_model::specs::Instructions::Branches::pops))]
 pub fn apply_pop(
     row: &Row,
     registers: &mut Registers,
@@ -89,7 +89,7 @@ pub fn apply_pop(
 }
 
 /// LEAVE.
-#[tactic(auto, unfolding(svm_model::specs::Branches::leaves))]
+#[tactic(auto, unfolding(svm_model::specs::Instructions::Branches::leaves))]
 pub fn apply_leave(
     registers: &mut Registers,
     next_rip: u64,
@@ -125,7 +125,7 @@ fn target_of(row: &Row, next_rip: u64, registers: &Registers, values: &[u64; 8])
 }
 
 /// JMP.
-#[tactic(auto, unfolding(svm_model::specs::Branches::jumps))]
+#[tactic(auto, unfolding(svm_model::specs::Instructions::Branches::jumps))]
 pub fn apply_jump(
     row: &Row,
     registers: &mut Registers,
@@ -141,7 +141,7 @@ pub fn apply_jump(
 }
 
 /// Jcc.
-#[tactic(auto, unfolding(svm_model::specs::Branches::jumps_where))]
+#[tactic(auto, unfolding(svm_model::specs::Instructions::Branches::jumps_where))]
 pub fn apply_conditional_jump(
     row: &Row,
     registers: &mut Registers,
@@ -159,7 +159,7 @@ pub fn apply_conditional_jump(
 }
 
 /// CALL.
-#[tactic(auto, unfolding(svm_model::specs::Branches::calls))]
+#[tactic(auto, unfolding(svm_model::specs::Instructions::Branches::calls))]
 pub fn apply_call(
     row: &Row,
     registers: &mut Registers,
@@ -180,7 +180,7 @@ pub fn apply_call(
 }
 
 /// RET.
-#[tactic(auto, unfolding(svm_model::specs::Branches::returns))]
+#[tactic(auto, unfolding(svm_model::specs::Instructions::Branches::returns))]
 pub fn apply_return(
     row: &Row,
     registers: &mut Registers,

@@ -1,6 +1,6 @@
 // The sixteen conditions of Jcc, SETcc and CMOVcc.
 ghost use Rattle.std.specs.Prelude.{◌≡◌};
-ghost use Rattle.svm_model.specs.Conditions.{even_condition, condition_holds};
+ghost use Rattle.svm_model.specs.Instructions.Conditions.{even_condition, condition_holds};
 
 use svm_model::Flags;
 

@@ -1,7 +1,7 @@
 // Rows that set flags, and rows that do nothing.
 ghost use Rattle.std.specs.Prelude.{◌≡◌, []};
-ghost use Rattle.svm_model.specs.Operands.{state};
-ghost use Rattle.svm_model.specs.FlagRows.{sets_carry, complements_carry, sets_direction, does_nothing};
+ghost use Rattle.svm_model.specs.Instructions.Operands.{state};
+ghost use Rattle.svm_model.specs.Instructions.FlagRows.{sets_carry, complements_carry, sets_direction, does_nothing};
 
 use register_file::{read_flags, write_carry, write_direction, write_rip};
 use svm_model::Registers;

@@ -1,8 +1,8 @@
 // Rows that move data.
 ghost use Rattle.std.specs.Prelude.{◌≡◌, ◌^◌, ◌<◌};
-ghost use Rattle.svm_model.specs.Widths.{bits};
-ghost use Rattle.svm_model.specs.Operands.{state};
-ghost use Rattle.svm_model.specs.Moves.{moves, movzx_extends, extended_by_sign, movsx_extends, lea_loads, cmovcc_moves, setcc_sets, half_of, cbw_extends, cwd_spreads_sign};
+ghost use Rattle.svm_model.specs.Instructions.Widths.{bits};
+ghost use Rattle.svm_model.specs.Instructions.Operands.{state};
+ghost use Rattle.svm_model.specs.Instructions.Moves.{moves, movzx_extends, extended_by_sign, movsx_extends, lea_loads, cmovcc_moves, setcc_sets, half_of, cbw_extends, cwd_spreads_sign};
 
 use crate::conditions::condition_holds;
 use crate::sources::{destination, source_value};
@@ -16,7 +16,7 @@ use row_table::operand_width;
 use svm_model::{Registers, Row, Width};
 
 /// MOV.
-#[tactic(auto, unfolding(svm_model::specs::Moves::moves))]
+#[tactic(auto, unfolding(svm_model::specs::Instructions::Moves::moves))]
 pub fn apply_move(
     row: &Row,
     registers: &mut Registers,
@@ -32,7 +32,7 @@ pub fn apply_move(
 }
 
 /// MOVZX.
-#[tactic(auto, unfolding(svm_model::specs::Moves::movzx_extends))]
+#[tactic(auto, unfolding(svm_model::specs::Instructions::Moves::movzx_extends))]
 pub fn apply_movzx(
     row: &Row,
     registers: &mut Registers,
@@ -54,7 +54,7 @@ pub fn apply_movzx(
 }
 
 /// An operand as 64 bits of the same signed number.
-#[tactic(auto, unfolding(svm_model::specs::Moves::extended_by_sign))]
+#[tactic(auto, unfolding(svm_model::specs::Instructions::Moves::extended_by_sign))]
 fn extended_by_sign(width: Width, value: u64) -> u64
     requires { value < 2 ^ bits width }
     ensures { result ≡ extended_by_sign width value }
@@ -68,7 +68,7 @@ fn extended_by_sign(width: Width, value: u64) -> u64
 }
 
 /// MOVSX and MOVSXD.
-#[tactic(auto, unfolding(svm_model::specs::Moves::movsx_extends))]
+#[tactic(auto, unfolding(svm_model::specs::Instructions::Moves::movsx_extends))]
 pub fn apply_movsx(
     row: &Row,
     registers: &mut Registers,
@@ -91,7 +91,7 @@ pub fn apply_movsx(
 }
 
 /// LEA.
-#[tactic(auto, unfolding(svm_model::specs::Moves::lea_loads))]
+#[tactic(auto, unfolding(svm_model::specs::Instructions::Moves::lea_loads))]
 pub fn apply_lea(row: &Row, registers: &mut Registers, next_rip: u64, results: &mut [u64; 8])
     ensures { state registers.new results.new ≡ lea_loads row.now next_rip (state registers.old results.old) }
 {
@@ -107,7 +107,7 @@ pub fn apply_lea(row: &Row, registers: &mut Registers, next_rip: u64, results: &
 }
 
 /// CMOVcc.
-#[tactic(auto, unfolding(svm_model::specs::Moves::cmovcc_moves))]
+#[tactic(auto, unfolding(svm_model::specs::Instructions::Moves::cmovcc_moves))]
 pub fn apply_cmovcc(
     row: &Row,
     registers: &mut Registers,
@@ -130,7 +130,7 @@ pub fn apply_cmovcc(
 }
 
 /// SETcc.
-#[tactic(auto, unfolding(svm_model::specs::Moves::setcc_sets))]
+#[tactic(auto, unfolding(svm_model::specs::Instructions::Moves::setcc_sets))]
 pub fn apply_setcc(row: &Row, registers: &mut Registers, next_rip: u64, results: &mut [u64; 8])
     ensures { state registers.new results.new ≡ setcc_sets row.now next_rip (state registers.old results.old) }
 {
@@ -150,7 +150,7 @@ fn half_of(width: Width) -> Width
 }
 
 /// CBW, CWDE and CDQE.
-#[tactic(auto, unfolding(svm_model::specs::Moves::cbw_extends))]
+#[tactic(auto, unfolding(svm_model::specs::Instructions::Moves::cbw_extends))]
 pub fn apply_cbw(
     row: &Row,
     registers: &mut Registers,
@@ -167,7 +167,7 @@ pub fn apply_cbw(
 }
 
 /// CWD, CDQ and CQO.
-#[tactic(auto, unfolding(svm_model::specs::Moves::cwd_spreads_sign))]
+#[tactic(auto, unfolding(svm_model::specs::Instructions::Moves::cwd_spreads_sign))]
 pub fn apply_cwd(
     row: &Row,
     registers: &mut Registers,

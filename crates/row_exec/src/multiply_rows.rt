@@ -1,9 +1,9 @@
 // Rows that multiply and divide.
 ghost use Rattle.std.specs.Prelude.{◌≡◌, ◌^◌, ◌<◌};
-ghost use Rattle.svm_model.specs.Widths.{bits};
-ghost use Rattle.svm_model.specs.Operands.{state};
-ghost use Rattle.svm_model.specs.Apply.{answer_of, state_after};
-ghost use Rattle.svm_model.specs.MultiplyRows.{with_accumulators, multiplies, factor_of, multiplies_into_register, has_one_operand, multiplies_signed, divides};
+ghost use Rattle.svm_model.specs.Instructions.Widths.{bits};
+ghost use Rattle.svm_model.specs.Instructions.Operands.{state};
+ghost use Rattle.svm_model.specs.Instructions.Apply.{answer_of, state_after};
+ghost use Rattle.svm_model.specs.Instructions.MultiplyRows.{with_accumulators, multiplies, factor_of, multiplies_into_register, has_one_operand, multiplies_signed, divides};
 
 use flag_math::{divide, multiply};
 use register_file::{
@@ -30,7 +30,7 @@ fn write_accumulators(
 }
 
 /// MUL, and IMUL with one operand.
-#[tactic(auto, unfolding(svm_model::specs::MultiplyRows::multiplies))]
+#[tactic(auto, unfolding(svm_model::specs::Instructions::MultiplyRows::multiplies))]
 pub fn apply_multiplication(
     signed: bool,
     row: &Row,
@@ -63,7 +63,7 @@ fn factor_of(row: &Row, registers: &Registers, values: &[u64; 8]) -> u64
 }
 
 /// IMUL with two or three operands.
-#[tactic(auto, unfolding(svm_model::specs::MultiplyRows::multiplies_into_register))]
+#[tactic(auto, unfolding(svm_model::specs::Instructions::MultiplyRows::multiplies_into_register))]
 fn apply_multiplication_into_register(
     row: &Row,
     registers: &mut Registers,
@@ -89,7 +89,7 @@ fn apply_multiplication_into_register(
 }
 
 /// IMUL.
-#[tactic(auto, unfolding(svm_model::specs::MultiplyRows::multiplies_signed))]
+#[tactic(auto, unfolding(svm_model::specs::Instructions::MultiplyRows::multiplies_signed))]
 pub fn apply_signed_multiplication(
     row: &Row,
     registers: &mut Registers,
@@ -107,7 +107,7 @@ pub fn apply_signed_multiplication(
 }
 
 /// DIV and IDIV.
-#[tactic(auto, unfolding(svm_model::specs::MultiplyRows::divides))]
+#[tactic(auto, unfolding(svm_model::specs::Instructions::MultiplyRows::divides))]
 pub fn apply_division(
     signed: bool,
     row: &Row,

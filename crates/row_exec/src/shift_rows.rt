@@ -1,7 +1,7 @@
 // Rows that shift and rotate.
 ghost use Rattle.std.specs.Prelude.{◌≡◌};
-ghost use Rattle.svm_model.specs.Operands.{state};
-ghost use Rattle.svm_model.specs.ShiftRows.{counts_by_cl, count_of, shifts};
+ghost use Rattle.svm_model.specs.Instructions.Operands.{state};
+ghost use Rattle.svm_model.specs.Instructions.ShiftRows.{counts_by_cl, count_of, shifts};
 
 use flag_math::shift;
 use register_file::{
@@ -21,7 +21,7 @@ fn count_of(row: &Row, registers: &Registers) -> u8
 }
 
 /// ROL, ROR, SHL, SHR and SAR.
-#[tactic(auto, unfolding(svm_model::specs::ShiftRows::shifts))]
+#[tactic(auto, unfolding(svm_model::specs::Instructions::ShiftRows::shifts))]
 pub fn apply_shift(
     kind: ShiftKind,
     row: &Row,

@@ -1,7 +1,7 @@
 // The destination and the source of a row with two operands, by its form.
 ghost use Rattle.std.specs.Prelude.{◌≡◌, ◌^◌, ◌<◌};
-ghost use Rattle.svm_model.specs.Widths.{bits};
-ghost use Rattle.svm_model.specs.Sources.{is_reversed, has_immediate, destination, source_operand, destination_value, source_value};
+ghost use Rattle.svm_model.specs.Instructions.Widths.{bits};
+ghost use Rattle.svm_model.specs.Instructions.Sources.{is_reversed, has_immediate, destination, source_operand, destination_value, source_value};
 
 use register_file::{cut, operand_value, register_named};
 use row_table::{has_immediate, is_reversed};

@@ -610,7 +610,7 @@ fn conditional(op: Op, form: Form, operand: Operand, condition: u8) -> Row
 }
 
 #[test]
-#[tactic(auto, using(svm_model::proofs::RowTableLemmas::user_rows_first), unfolding(svm_model::specs::RowNumbers::op_number))]
+#[tactic(auto, using(svm_model::proofs::RowTableLemmas::user_rows_first), unfolding(svm_model::specs::Instructions::RowNumbers::op_number))]
 fn conditions_hold_as_in_a_processor(rt: HostRuntime) {
     for (condition, wanted) in CONDITIONS.iter().enumerate() {
         let condition = condition as u8;

@@ -1,6 +1,6 @@
 // What a width says in numbers.
 ghost use Rattle.std.specs.Prelude.{◌≡◌, ◌-◌, ◌^◌};
-ghost use Rattle.svm_model.specs.Widths.{bits};
+ghost use Rattle.svm_model.specs.Instructions.Widths.{bits};
 
 use svm_model::Width;
 

@@ -3,7 +3,7 @@ use Rattle.std.proofs.Common.{◌≡◌, ℕ, List, [], ◌∷◌, ◌++◌, Res
 use Rattle.std.proofs.lemmas.List.{append-nil}
 use Rattle.svm_model.specs.declared.row_lines.Unread.{Unread}
 use Rattle.svm_model.specs.declared.row_lines.Unread.TheVariants.{More, Unlisted}
-use Rattle.svm_model.specs.InstructionBytes.{◌>>=◌, AreBytes}
+use Rattle.svm_model.specs.Instructions.InstructionBytes.{◌>>=◌, AreBytes}
 use Rattle.row_table.proofs.Readers.{Reader, Takes, Waits, Refuses, IsReader}
 
 abbrev pub then : {X Y : Type 0} → Reader X → (X → Reader Y) → Reader Y

@@ -6,8 +6,8 @@ use Rattle.row_table.proofs.Bind.{rest-nil}
 use Rattle.row_table.proofs.Lengths.{form_length}
 use Rattle.row_table.proofs.Splits.{same_ok}
 use Rattle.row_table.proofs.Whole.{IsReader-form, form_starts}
-use Rattle.svm_model.specs.Decoding.{form_at}
-use Rattle.svm_model.specs.Rows.{IsForm, BeginsForm, HasForm, GoesOn, LeavesForms, IsDecoded, answer, decoded}
+use Rattle.svm_model.specs.Instructions.Decoding.{form_at}
+use Rattle.svm_model.specs.Instructions.Rows.{IsForm, BeginsForm, HasForm, GoesOn, LeavesForms, IsDecoded, answer, decoded}
 use Rattle.svm_model.specs.declared.row_lines.Unread.{Unread}
 use Rattle.svm_model.specs.declared.row_lines.Unread.TheVariants as unread
 use Rattle.svm_model.specs.declared.rows.Decoded.{Decoded}

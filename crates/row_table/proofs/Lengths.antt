@@ -9,15 +9,15 @@ use Rattle.row_table.proofs.Readers.{Reader}
 use Rattle.row_table.proofs.Single.{pure}
 use Rattle.row_table.proofs.Splits.{bind_ok, same_ok, prefix_split, rex_split, opened_split}
 use Rattle.row_table.proofs.Whole.{room, room-falls}
-use Rattle.svm_model.specs.Decoding.{opened_at, body_at, form_at}
-use Rattle.svm_model.specs.Operands.{cut}
-use Rattle.svm_model.specs.RowParts.{full_at, whole_at, immediate_at, is_of_byte, operand_by, operand_field_at, width_of, row_of}
-use Rattle.svm_model.specs.InstructionBytes.{◌>>=◌, byte_at, word_at, double_at, quad_at}
-use Rattle.svm_model.specs.ModRm.{extended_8, extended_32, displacement_at, displacement_size, base_of, index_of, scale_of, is_baseless, mode_of, rm_of, register_operand, sib_at, operand_at}
-use Rattle.svm_model.specs.Prefixes.{no_prefix, prefixes_of, rex_and_rest}
-use Rattle.svm_model.specs.RowLines.{has_modrm, takes_modrm}
-use Rattle.svm_model.specs.RowTable.{table}
-use Rattle.svm_model.specs.Spelling.{ArePrefixes, IsRex, opcode_bytes, IsModrm, IsLineOf}
+use Rattle.svm_model.specs.Instructions.Decoding.{opened_at, body_at, form_at}
+use Rattle.svm_model.specs.Instructions.Operands.{cut}
+use Rattle.svm_model.specs.Instructions.RowParts.{full_at, whole_at, immediate_at, is_of_byte, operand_by, operand_field_at, width_of, row_of}
+use Rattle.svm_model.specs.Instructions.InstructionBytes.{◌>>=◌, byte_at, word_at, double_at, quad_at}
+use Rattle.svm_model.specs.Instructions.ModRm.{extended_8, extended_32, displacement_at, displacement_size, base_of, index_of, scale_of, is_baseless, mode_of, rm_of, register_operand, sib_at, operand_at}
+use Rattle.svm_model.specs.Instructions.Prefixes.{no_prefix, prefixes_of, rex_and_rest}
+use Rattle.svm_model.specs.Instructions.RowLines.{has_modrm, takes_modrm}
+use Rattle.svm_model.specs.Instructions.RowTable.{table}
+use Rattle.svm_model.specs.Instructions.Spelling.{ArePrefixes, IsRex, opcode_bytes, IsModrm, IsLineOf}
 use Rattle.svm_model.specs.declared.row_lines.Displacement.{Displacement}
 use Rattle.svm_model.specs.declared.row_lines.Displacement.TheVariants as sizes
 use Rattle.svm_model.specs.declared.row_lines.OperandFields.{OperandFields}

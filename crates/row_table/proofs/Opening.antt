@@ -6,12 +6,12 @@ use Rattle.std.proofs.lemmas.Bool.{and_parts, and_from, eq-eqb, ltb-true, lt-ltb
 use Rattle.std.proofs.Math.Nat.{sub_self, zero-mod, zero-div}
 use Rattle.row_table.proofs.Readers.{Reader, IsReader}
 use Rattle.row_table.proofs.Single.{IsReader-pure, IsReader-on_byte, on_byte, IsRefusal}
-use Rattle.svm_model.specs.Decoding.{listed, modrm_at, line_at, escape_of, escaped_at, after_first, opened_at}
-use Rattle.svm_model.specs.RowParts.{opened}
-use Rattle.svm_model.specs.InstructionBytes.{◌>>=◌}
-use Rattle.svm_model.specs.ModRm.{reg_of}
-use Rattle.svm_model.specs.RowLines.{same_map, opens, has_modrm, is_control, leads, starts, matches, takes_modrm, first_where, leading_line, first_line, fitting_line}
-use Rattle.svm_model.specs.RowTable.{table}
+use Rattle.svm_model.specs.Instructions.Decoding.{listed, modrm_at, line_at, escape_of, escaped_at, after_first, opened_at}
+use Rattle.svm_model.specs.Instructions.RowParts.{opened}
+use Rattle.svm_model.specs.Instructions.InstructionBytes.{◌>>=◌}
+use Rattle.svm_model.specs.Instructions.ModRm.{reg_of}
+use Rattle.svm_model.specs.Instructions.RowLines.{same_map, opens, has_modrm, is_control, leads, starts, matches, takes_modrm, first_where, leading_line, first_line, fitting_line}
+use Rattle.svm_model.specs.Instructions.RowTable.{table}
 use Rattle.svm_model.specs.declared.row_lines.OperandFields.{OperandFields}
 use Rattle.svm_model.specs.declared.row_lines.OperandFields.TheVariants as fields
 use Rattle.svm_model.specs.declared.row_lines.RowLine.{RowLine}

@@ -3,10 +3,10 @@ use Rattle.std.proofs.Common.{◌≡◌, ◌==◌, ℕ, ◌+◌, ◌*◌, ◌%�
 use Rattle.row_table.proofs.Bind.{then, IsReader-then}
 use Rattle.row_table.proofs.Readers.{Reader, IsReader}
 use Rattle.row_table.proofs.Single.{pure, IsReader-pure, IsReader-same, IsReader-cond, IsReader-on_byte, on_byte}
-use Rattle.svm_model.specs.Operands.{cut}
-use Rattle.svm_model.specs.RowParts.{full_at, whole_at, immediate_at, is_of_byte, operand_by, operand_field_at}
-use Rattle.svm_model.specs.InstructionBytes.{byte_at, word_at, double_at, quad_at}
-use Rattle.svm_model.specs.ModRm.{extended_8, extended_32, displacement_at, displacement_size, base_of, index_of, scale_of, is_baseless, mode_of, rm_of, register_operand, sib_at, operand_at}
+use Rattle.svm_model.specs.Instructions.Operands.{cut}
+use Rattle.svm_model.specs.Instructions.RowParts.{full_at, whole_at, immediate_at, is_of_byte, operand_by, operand_field_at}
+use Rattle.svm_model.specs.Instructions.InstructionBytes.{byte_at, word_at, double_at, quad_at}
+use Rattle.svm_model.specs.Instructions.ModRm.{extended_8, extended_32, displacement_at, displacement_size, base_of, index_of, scale_of, is_baseless, mode_of, rm_of, register_operand, sib_at, operand_at}
 use Rattle.svm_model.specs.declared.row_lines.Displacement.{Displacement}
 use Rattle.svm_model.specs.declared.row_lines.Displacement.TheVariants as sizes
 use Rattle.svm_model.specs.declared.row_lines.OperandFields.{OperandFields}

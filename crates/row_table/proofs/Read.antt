@@ -3,12 +3,12 @@ use Rattle.std.proofs.Common.{◌≡◌, ℕ, ◌<◌, List, [], ◌∷◌, ◌+
 use Rattle.std.proofs.lemmas.List.{append-nil}
 use Rattle.row_table.proofs.Parts.{IsReader-operand_field}
 use Rattle.row_table.proofs.Splits.{bind_ok, same_ok, prefix_split, rex_split, opened_split}
-use Rattle.svm_model.specs.Decoding.{opened_at, body_at}
-use Rattle.svm_model.specs.RowParts.{width_of, row_of, immediate_at, operand_field_at}
-use Rattle.svm_model.specs.InstructionBytes.{◌>>=◌, AreBytes}
-use Rattle.svm_model.specs.Prefixes.{no_prefix, prefixes_of, rex_and_rest}
-use Rattle.svm_model.specs.Rows.{IsForm}
-use Rattle.svm_model.specs.Spelling.{opcode_bytes, IsSpelled}
+use Rattle.svm_model.specs.Instructions.Decoding.{opened_at, body_at}
+use Rattle.svm_model.specs.Instructions.RowParts.{width_of, row_of, immediate_at, operand_field_at}
+use Rattle.svm_model.specs.Instructions.InstructionBytes.{◌>>=◌, AreBytes}
+use Rattle.svm_model.specs.Instructions.Prefixes.{no_prefix, prefixes_of, rex_and_rest}
+use Rattle.svm_model.specs.Instructions.Rows.{IsForm}
+use Rattle.svm_model.specs.Instructions.Spelling.{opcode_bytes, IsSpelled}
 use Rattle.svm_model.specs.declared.row_lines.OpcodeMap.{OpcodeMap}
 use Rattle.svm_model.specs.declared.row_lines.OpcodeMap.TheVariants as map
 use Rattle.svm_model.specs.declared.rows.Row.{Row}

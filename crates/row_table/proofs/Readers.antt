@@ -1,6 +1,6 @@
 -- What it means that bytes are read one after another, with no byte read in vain.
 use Rattle.std.proofs.Common.{◌≡◌, ℕ, List, [], ◌∷◌, ◌++◌, Result, Ok, Err}
-use Rattle.svm_model.specs.InstructionBytes.{AreBytes}
+use Rattle.svm_model.specs.Instructions.InstructionBytes.{AreBytes}
 use Rattle.svm_model.specs.declared.row_lines.Unread.{Unread}
 use Rattle.svm_model.specs.declared.row_lines.Unread.TheVariants.{More, Unlisted}
 

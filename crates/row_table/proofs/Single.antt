@@ -2,7 +2,7 @@
 use Rattle.std.proofs.Common.{◌≡◌, ℕ, ◌<◌, ◌⊎◌, inl, inr, List, [], ◌∷◌, ◌++◌, Bool, true, false, cond, Result, Ok, Err, refl, sym, ap, ◌∙◌, subst}
 use Rattle.svm_model.specs.declared.row_lines.Unread.{Unread}
 use Rattle.svm_model.specs.declared.row_lines.Unread.TheVariants.{More, Unlisted}
-use Rattle.svm_model.specs.InstructionBytes.{◌>>=◌, byte_at}
+use Rattle.svm_model.specs.Instructions.InstructionBytes.{◌>>=◌, byte_at}
 use Rattle.row_table.proofs.Readers.{Reader, Takes, Waits, Refuses, IsReader}
 use Rattle.row_table.proofs.Bind.{rest-nil, no_byte}
 

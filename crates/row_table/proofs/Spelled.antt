@@ -7,14 +7,14 @@ use Rattle.row_table.proofs.Parts.{IsReader-operand_field}
 use Rattle.row_table.proofs.Readers.{Reader, IsReader}
 use Rattle.row_table.proofs.Splits.{first_where-is}
 use Rattle.row_table.proofs.Unique.{AreApart, one_or_apart, is_opening, closed_at, first_where-only, first_where-found}
-use Rattle.svm_model.specs.Decoding.{listed, modrm_at, line_at, escape_of, escaped_at, after_first, opened_at, body_at, row_at, form_at}
-use Rattle.svm_model.specs.RowParts.{opened, width_of, row_of, immediate_at, operand_field_at}
-use Rattle.svm_model.specs.InstructionBytes.{◌>>=◌, byte_at}
-use Rattle.svm_model.specs.Prefixes.{no_prefix, with_prefix, prefixes_of, no_rex, is_rex, rex_of, rex_and_rest}
-use Rattle.svm_model.specs.RowLines.{opens, is_allowed, has_modrm, takes_modrm, leads, starts, matches, first_line, fitting_line}
-use Rattle.svm_model.specs.RowTable.{table}
-use Rattle.svm_model.specs.Rows.{IsForm}
-use Rattle.svm_model.specs.Spelling.{ArePrefixes, IsRex, opcode_bytes, IsModrm, IsLineOf, IsSpelled}
+use Rattle.svm_model.specs.Instructions.Decoding.{listed, modrm_at, line_at, escape_of, escaped_at, after_first, opened_at, body_at, row_at, form_at}
+use Rattle.svm_model.specs.Instructions.RowParts.{opened, width_of, row_of, immediate_at, operand_field_at}
+use Rattle.svm_model.specs.Instructions.InstructionBytes.{◌>>=◌, byte_at}
+use Rattle.svm_model.specs.Instructions.Prefixes.{no_prefix, with_prefix, prefixes_of, no_rex, is_rex, rex_of, rex_and_rest}
+use Rattle.svm_model.specs.Instructions.RowLines.{opens, is_allowed, has_modrm, takes_modrm, leads, starts, matches, first_line, fitting_line}
+use Rattle.svm_model.specs.Instructions.RowTable.{table}
+use Rattle.svm_model.specs.Instructions.Rows.{IsForm}
+use Rattle.svm_model.specs.Instructions.Spelling.{ArePrefixes, IsRex, opcode_bytes, IsModrm, IsLineOf, IsSpelled}
 use Rattle.svm_model.specs.declared.row_lines.RowLine.{RowLine}
 use Rattle.svm_model.specs.declared.row_lines.OpcodeMap.{OpcodeMap}
 use Rattle.svm_model.specs.declared.row_lines.OpcodeMap.TheVariants as map

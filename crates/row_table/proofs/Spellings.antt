@@ -5,10 +5,10 @@ use Rattle.row_table.proofs.Bind.{AreBytes-append}
 use Rattle.row_table.proofs.Exact.{decoded_is}
 use Rattle.row_table.proofs.Read.{IsSpelled-from_form}
 use Rattle.row_table.proofs.Spelled.{IsForm-from_spelled}
-use Rattle.svm_model.specs.Decoding.{form_at}
-use Rattle.svm_model.specs.InstructionBytes.{AreBytes}
-use Rattle.svm_model.specs.Rows.{GoesOn, IsDecoded, decoded}
-use Rattle.svm_model.specs.Spelling.{GoesOnSpelling, IsDecodedSpelling}
+use Rattle.svm_model.specs.Instructions.Decoding.{form_at}
+use Rattle.svm_model.specs.Instructions.InstructionBytes.{AreBytes}
+use Rattle.svm_model.specs.Instructions.Rows.{GoesOn, IsDecoded, decoded}
+use Rattle.svm_model.specs.Instructions.Spelling.{GoesOnSpelling, IsDecodedSpelling}
 use Rattle.svm_model.specs.declared.rows.Decoded.{Decoded}
 use Rattle.svm_model.specs.declared.rows.Decoded.TheVariants as decoding
 

@@ -1,13 +1,13 @@
 -- The bytes of what was read: prefixes, the REX prefix, the opcode and the ModRM byte.
 use Rattle.std.proofs.Common.{◌≡◌, ◌==◌, ℕ, inl, inr, List, [], ◌∷◌, ◌++◌, Bool, true, false, cond, Option, Some, None, Result, Ok, Err, MatchBool, refl, sym, ap, ◌∙◌, subst}
 use Rattle.std.proofs.lemmas.Bool.{and_parts, leb-true, ltb-true, eqb-true}
-use Rattle.svm_model.specs.Decoding.{listed, modrm_at, line_at, escape_of, escaped_at, after_first, opened_at}
-use Rattle.svm_model.specs.RowParts.{opened}
-use Rattle.svm_model.specs.InstructionBytes.{◌>>=◌, byte_at}
-use Rattle.svm_model.specs.Prefixes.{with_prefix, prefixes_of, no_rex, is_rex, rex_of, rex_and_rest}
-use Rattle.svm_model.specs.RowLines.{same_map, opens, is_allowed, has_modrm, takes_modrm, starts, matches, first_where, leading_line, first_line, fitting_line}
-use Rattle.svm_model.specs.RowTable.{table}
-use Rattle.svm_model.specs.Spelling.{ArePrefixes, IsRex, opcode_bytes, IsModrm, IsLineOf}
+use Rattle.svm_model.specs.Instructions.Decoding.{listed, modrm_at, line_at, escape_of, escaped_at, after_first, opened_at}
+use Rattle.svm_model.specs.Instructions.RowParts.{opened}
+use Rattle.svm_model.specs.Instructions.InstructionBytes.{◌>>=◌, byte_at}
+use Rattle.svm_model.specs.Instructions.Prefixes.{with_prefix, prefixes_of, no_rex, is_rex, rex_of, rex_and_rest}
+use Rattle.svm_model.specs.Instructions.RowLines.{same_map, opens, is_allowed, has_modrm, takes_modrm, starts, matches, first_where, leading_line, first_line, fitting_line}
+use Rattle.svm_model.specs.Instructions.RowTable.{table}
+use Rattle.svm_model.specs.Instructions.Spelling.{ArePrefixes, IsRex, opcode_bytes, IsModrm, IsLineOf}
 use Rattle.svm_model.specs.declared.row_lines.OperandFields.{OperandFields}
 use Rattle.svm_model.specs.declared.row_lines.OperandFields.TheVariants as fields
 use Rattle.svm_model.specs.declared.row_lines.RowLine.{RowLine}

@@ -4,10 +4,10 @@ use Rattle.std.proofs.lemmas.Bool.{and_parts, or_cases, cases_eq, eqb-true, eqb-
 use Rattle.std.specs.List.{list_all}
 use Rattle.std.specs.Prelude.{filter, nat_le, ◌==◌}
 use Rattle.row_table.proofs.Lengths.{listed_all}
-use Rattle.svm_model.specs.Prefixes.{is_rex}
-use Rattle.svm_model.specs.RowLines.{opens, has_modrm, meets, takes_modrm, first_where}
-use Rattle.svm_model.specs.RowTable.{table}
-use Rattle.svm_model.specs.Spelling.{IsLineOf}
+use Rattle.svm_model.specs.Instructions.Prefixes.{is_rex}
+use Rattle.svm_model.specs.Instructions.RowLines.{opens, has_modrm, meets, takes_modrm, first_where}
+use Rattle.svm_model.specs.Instructions.RowTable.{table}
+use Rattle.svm_model.specs.Instructions.Spelling.{IsLineOf}
 use Rattle.svm_model.specs.declared.row_lines.OperandFields.{OperandFields}
 use Rattle.svm_model.specs.declared.row_lines.OperandFields.TheVariants as fields
 use Rattle.svm_model.specs.declared.row_lines.RowLine.{RowLine}

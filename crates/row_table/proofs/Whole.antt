@@ -7,13 +7,13 @@ use Rattle.row_table.proofs.Opening.{IsSteady, IsReader-opened}
 use Rattle.row_table.proofs.Parts.{IsReader-mapped, IsReader-operand_field, IsReader-immediate}
 use Rattle.row_table.proofs.Readers.{Reader, Takes, Waits, Refuses, IsReader}
 use Rattle.row_table.proofs.Single.{IsReader-same}
-use Rattle.svm_model.specs.Decoding.{line_at, modrm_at, after_first, opened_at, body_at, row_at, form_at}
-use Rattle.svm_model.specs.RowParts.{width_of, row_of, immediate_at, operand_field_at}
-use Rattle.svm_model.specs.InstructionBytes.{byte_at}
-use Rattle.svm_model.specs.ModRm.{operand_at}
-use Rattle.svm_model.specs.Prefixes.{no_prefix, with_prefix, prefixes_of, no_rex, is_rex, rex_of, rex_and_rest}
-use Rattle.svm_model.specs.RowLines.{first_where}
-use Rattle.svm_model.specs.RowTable.{table}
+use Rattle.svm_model.specs.Instructions.Decoding.{line_at, modrm_at, after_first, opened_at, body_at, row_at, form_at}
+use Rattle.svm_model.specs.Instructions.RowParts.{width_of, row_of, immediate_at, operand_field_at}
+use Rattle.svm_model.specs.Instructions.InstructionBytes.{byte_at}
+use Rattle.svm_model.specs.Instructions.ModRm.{operand_at}
+use Rattle.svm_model.specs.Instructions.Prefixes.{no_prefix, with_prefix, prefixes_of, no_rex, is_rex, rex_of, rex_and_rest}
+use Rattle.svm_model.specs.Instructions.RowLines.{first_where}
+use Rattle.svm_model.specs.Instructions.RowTable.{table}
 use Rattle.svm_model.specs.declared.row_lines.Prefixes.{Prefixes}
 use Rattle.svm_model.specs.declared.row_lines.Rex.{Rex}
 use Rattle.svm_model.specs.declared.row_lines.Unread.TheVariants.{More, Unlisted}

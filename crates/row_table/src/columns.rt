@@ -1,19 +1,19 @@
 // What the table says of a form: the look-ups in its columns.
 ghost use Rattle.std.specs.Prelude.{◌≡◌, ◌<◌};
-ghost use Rattle.svm_model.specs.Locking.{lock_stands, takes_lock};
-ghost use Rattle.svm_model.specs.MultiplyRows.{has_one_operand};
-ghost use Rattle.svm_model.specs.RowColumns.{ColumnsAgree};
-ghost use Rattle.svm_model.specs.RowNumbers.{form_number};
-ghost use Rattle.svm_model.specs.RowTable.{line_at, line_of, operands_of, is_rm, is_reg, is_immediate};
-ghost use Rattle.svm_model.specs.ShiftRows.{counts_by_cl};
-ghost use Rattle.svm_model.specs.Sources.{is_reversed, has_immediate, names_dx, rm_code, width_by, operand_width};
-ghost use Rattle.svm_model.specs.UserRows.{is_user_row};
+ghost use Rattle.svm_model.specs.Instructions.Locking.{lock_stands, takes_lock};
+ghost use Rattle.svm_model.specs.Instructions.MultiplyRows.{has_one_operand};
+ghost use Rattle.svm_model.specs.Instructions.RowColumns.{ColumnsAgree};
+ghost use Rattle.svm_model.specs.Instructions.RowNumbers.{form_number};
+ghost use Rattle.svm_model.specs.Instructions.RowTable.{line_at, line_of, operands_of, is_rm, is_reg, is_immediate};
+ghost use Rattle.svm_model.specs.Instructions.ShiftRows.{counts_by_cl};
+ghost use Rattle.svm_model.specs.Instructions.Sources.{is_reversed, has_immediate, names_dx, rm_code, width_by, operand_width};
+ghost use Rattle.svm_model.specs.Instructions.UserRows.{is_user_row};
 
 use crate::table::lines;
 use svm_model::{Form, LockUse, Op, OperandCode, OperandCodes, Row, RowLine, Width};
 
 /// The number of a form, which is that of its line.
-#[tactic(auto, unfolding(svm_model::specs::RowNumbers::form_number))]
+#[tactic(auto, unfolding(svm_model::specs::Instructions::RowNumbers::form_number))]
 fn number(form: Form) -> usize
     ensures value { result ≡ form_number form }
     ensures bound { result < 137 }
@@ -22,7 +22,7 @@ fn number(form: Form) -> usize
 }
 
 /// The line of this number.
-#[tactic(auto, unfolding(svm_model::specs::RowTable::line_at))]
+#[tactic(auto, unfolding(svm_model::specs::Instructions::RowTable::line_at))]
 fn line_at(number: usize) -> RowLine
     requires { number < 137 }
     ensures { result ≡ line_at number }
@@ -71,7 +71,7 @@ fn is_immediate(code: OperandCode) -> bool
 }
 
 /// Whether the reg field names the destination, and r/m the source.
-#[tactic(auto, unfolding(svm_model::specs::Sources::is_reversed))]
+#[tactic(auto, unfolding(svm_model::specs::Instructions::Sources::is_reversed))]
 pub fn is_reversed(form: Form) -> bool
     ensures { result ≡ is_reversed form }
 {
@@ -80,7 +80,7 @@ pub fn is_reversed(form: Form) -> bool
 }
 
 /// Whether the source is an immediate.
-#[tactic(auto, unfolding(svm_model::specs::Sources::has_immediate))]
+#[tactic(auto, unfolding(svm_model::specs::Instructions::Sources::has_immediate))]
 pub fn has_immediate(form: Form) -> bool
     ensures { result ≡ has_immediate form }
 {
@@ -89,7 +89,7 @@ pub fn has_immediate(form: Form) -> bool
 }
 
 /// Whether the port of IN or OUT stands in DX.
-#[tactic(auto, unfolding(svm_model::specs::Sources::names_dx))]
+#[tactic(auto, unfolding(svm_model::specs::Instructions::Sources::names_dx))]
 pub fn names_dx(form: Form) -> bool
     ensures { result ≡ names_dx form }
 {
@@ -98,7 +98,7 @@ pub fn names_dx(form: Form) -> bool
 }
 
 /// Whether the count of a shift stands in CL.
-#[tactic(auto, unfolding(svm_model::specs::ShiftRows::counts_by_cl))]
+#[tactic(auto, unfolding(svm_model::specs::Instructions::ShiftRows::counts_by_cl))]
 pub fn counts_by_cl(form: Form) -> bool
     ensures { result ≡ counts_by_cl form }
 {
@@ -106,7 +106,7 @@ pub fn counts_by_cl(form: Form) -> bool
 }
 
 /// Whether IMUL names one operand alone.
-#[tactic(auto, unfolding(svm_model::specs::MultiplyRows::has_one_operand))]
+#[tactic(auto, unfolding(svm_model::specs::Instructions::MultiplyRows::has_one_operand))]
 pub fn has_one_operand(form: Form) -> bool
     ensures { result ≡ has_one_operand form }
 {
@@ -138,7 +138,7 @@ fn width_by(code: OperandCode, width: Width) -> Width
 }
 
 /// The width of the operand that r/m names: that of the row, but for the sources of MOVZX, MOVSX and MOVSXD.
-#[tactic(auto, unfolding(svm_model::specs::Sources::operand_width))]
+#[tactic(auto, unfolding(svm_model::specs::Instructions::Sources::operand_width))]
 pub fn operand_width(row: &Row) -> Width
     ensures { result ≡ operand_width row.now }
 {
@@ -157,7 +157,7 @@ fn lock_stands(lock: LockUse, op: Op) -> bool
 }
 
 /// Whether a row may have a LOCK prefix, where its destination is memory (volume 3, 'Lock Prefix').
-#[tactic(auto, unfolding(svm_model::specs::Locking::takes_lock))]
+#[tactic(auto, unfolding(svm_model::specs::Instructions::Locking::takes_lock))]
 pub fn takes_lock(row: &Row) -> bool
     ensures { result ≡ takes_lock row.now }
 {
@@ -166,7 +166,7 @@ pub fn takes_lock(row: &Row) -> bool
 
 /// Whether an instruction's rows are user rows: all but those that need what is beyond the registers and memory, such as a
 /// port, an event or a change of privilege or of paging. User rows come before system rows in `Op`.
-#[tactic(auto, using(svm_model::proofs::RowTableLemmas::user_rows_first), unfolding(svm_model::specs::RowNumbers::op_number))]
+#[tactic(auto, using(svm_model::proofs::RowTableLemmas::user_rows_first), unfolding(svm_model::specs::Instructions::RowNumbers::op_number))]
 pub fn is_user_row(op: Op) -> bool
     ensures { result ≡ is_user_row op }
 {

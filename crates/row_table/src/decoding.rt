@@ -1,10 +1,10 @@
 // Reads the bytes of an instruction.
 ghost use Rattle.std.specs.Prelude.{◌≡◌, ◌≢◌, ◌<◌, ◌≤◌, ◌++◌, ℕ, List, [], length, Bool};
-ghost use Rattle.svm_model.specs.Decoding.{escape_of, line_at, opened_at, row_at};
-ghost use Rattle.svm_model.specs.RowParts.{arithmetic, shift_or_rotation, op_by, condition_by, width_of, is_byte, is_of_byte, full_at, whole_at, immediate_at, operand_field_at, register_by};
-ghost use Rattle.svm_model.specs.InstructionBytes.{Reads};
-ghost use Rattle.svm_model.specs.Rows.{decoded, IsForm, LeavesForms, IsDecoded};
-ghost use Rattle.svm_model.specs.Spelling.{IsSpelled, IsDecodedSpelling};
+ghost use Rattle.svm_model.specs.Instructions.Decoding.{escape_of, line_at, opened_at, row_at};
+ghost use Rattle.svm_model.specs.Instructions.RowParts.{arithmetic, shift_or_rotation, op_by, condition_by, width_of, is_byte, is_of_byte, full_at, whole_at, immediate_at, operand_field_at, register_by};
+ghost use Rattle.svm_model.specs.Instructions.InstructionBytes.{Reads};
+ghost use Rattle.svm_model.specs.Instructions.Rows.{decoded, IsForm, LeavesForms, IsDecoded};
+ghost use Rattle.svm_model.specs.Instructions.Spelling.{IsSpelled, IsDecodedSpelling};
 
 use crate::fields::{extended_8, extended_32, read_rm, register_code, register_operand};
 use crate::input::Input;
@@ -118,7 +118,7 @@ fn read_whole(input: &mut Input, width: Width) -> Result<u64, Unread>
     }
 }
 
-#[tactic(auto, unfolding(svm_model::specs::RowParts::immediate_at))]
+#[tactic(auto, unfolding(svm_model::specs::Instructions::RowParts::immediate_at))]
 fn read_immediate(input: &mut Input, immediate: Immediate, width: Width) -> Result<u64, Unread>
     ensures { Reads result input.new.rest.now (immediate_at immediate width input.old.rest.now) }
 {
@@ -145,7 +145,7 @@ fn escape_of(byte: u8) -> Option<OpcodeMap>
 }
 
 /// Reads the ModRM byte after an opcode, where it has one.
-#[tactic(auto, unfolding(svm_model::specs::Decoding::line_at, svm_model::specs::Decoding::modrm_at))]
+#[tactic(auto, unfolding(svm_model::specs::Instructions::Decoding::line_at, svm_model::specs::Instructions::Decoding::modrm_at))]
 fn read_line(
     input: &mut Input,
     prefixes: Prefixes,
@@ -178,7 +178,7 @@ fn read_line(
 }
 
 /// Reads the opcode and the ModRM byte.
-#[tactic(auto, unfolding(svm_model::specs::Decoding::opened_at, svm_model::specs::Decoding::after_first, svm_model::specs::Decoding::escaped_at))]
+#[tactic(auto, unfolding(svm_model::specs::Instructions::Decoding::opened_at, svm_model::specs::Instructions::Decoding::after_first, svm_model::specs::Instructions::Decoding::escaped_at))]
 fn read_opened(input: &mut Input, prefixes: Prefixes, rex: Rex) -> Result<OpenedLine, Unread>
     requires { rex.register ≤ 8 }
     ensures { Reads result input.new.rest.now (opened_at prefixes rex input.old.rest.now) }
@@ -195,7 +195,7 @@ fn read_opened(input: &mut Input, prefixes: Prefixes, rex: Rex) -> Result<Opened
 }
 
 /// Reads the operand that the form has.
-#[tactic(auto, unfolding(svm_model::specs::RowParts::operand_field_at))]
+#[tactic(auto, unfolding(svm_model::specs::Instructions::RowParts::operand_field_at))]
 fn read_operand(
     input: &mut Input,
     segment: u8,
@@ -245,7 +245,7 @@ fn register_by(fields: OperandFields, rex: Rex, small: bool, modrm: u8) -> u8
 }
 
 /// Reads what stands after the legacy prefixes.
-#[tactic(auto, unfolding(svm_model::specs::Decoding::body_at))]
+#[tactic(auto, unfolding(svm_model::specs::Instructions::Decoding::body_at))]
 fn read_row(input: &mut Input, prefixes: Prefixes) -> Result<Row, Unread>
     ensures { Reads result input.new.rest.now (row_at prefixes input.old.rest.now) }
 {
@@ -267,7 +267,7 @@ fn read_row(input: &mut Input, prefixes: Prefixes) -> Result<Row, Unread>
     })
 }
 
-#[tactic(auto, unfolding(svm_model::specs::Rows::decoded))]
+#[tactic(auto, unfolding(svm_model::specs::Instructions::Rows::decoded))]
 fn read_form(bytes: &[u8]) -> Decoded
     ensures { result ≡ decoded bytes.now }
 {

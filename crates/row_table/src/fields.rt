@@ -1,7 +1,7 @@
 // ModRM, SIB and displacement.
 ghost use Rattle.std.specs.Prelude.{◌≡◌, ◌<◌, ◌≤◌};
-ghost use Rattle.svm_model.specs.InstructionBytes.{Reads};
-ghost use Rattle.svm_model.specs.ModRm.{extended_8, extended_32, displacement_at, sib_at, operand_at, is_high, register_operand, register_code, size_of_mode, scale_of};
+ghost use Rattle.svm_model.specs.Instructions.InstructionBytes.{Reads};
+ghost use Rattle.svm_model.specs.Instructions.ModRm.{extended_8, extended_32, displacement_at, sib_at, operand_at, is_high, register_operand, register_code, size_of_mode, scale_of};
 
 use crate::input::Input;
 use svm_model::{Displacement, Operand, Rex, Unread};
@@ -26,7 +26,7 @@ pub fn extended_32(double: u32) -> u64
     }
 }
 
-#[tactic(auto, unfolding(svm_model::specs::ModRm::displacement_at))]
+#[tactic(auto, unfolding(svm_model::specs::Instructions::ModRm::displacement_at))]
 fn read_displacement(input: &mut Input, size: Displacement) -> Result<u64, Unread>
     ensures { Reads result input.new.rest.now (displacement_at size input.old.rest.now) }
 {
@@ -64,7 +64,7 @@ fn scale_of(index: Option<u8>, sib: u8) -> u8
 }
 
 /// Reads the operand of a SIB byte, under mod.
-#[tactic(auto, unfolding(svm_model::specs::ModRm::sib_at))]
+#[tactic(auto, unfolding(svm_model::specs::Instructions::ModRm::sib_at))]
 fn read_sib(input: &mut Input, segment: u8, rex: Rex, mode: u8) -> Result<Operand, Unread>
     requires index { rex.index ≤ 8 }
     requires base { rex.base ≤ 8 }
@@ -135,7 +135,7 @@ pub fn register_code(rex: Rex, small: bool, number: u8) -> u8
 }
 
 /// Reads the operand that mod and r/m name.
-#[tactic(auto, unfolding(svm_model::specs::ModRm::operand_at))]
+#[tactic(auto, unfolding(svm_model::specs::Instructions::ModRm::operand_at))]
 pub fn read_rm(
     input: &mut Input,
     segment: u8,

@@ -1,6 +1,6 @@
 // The bytes of an instruction that are still to be read.
 ghost use Rattle.std.specs.Prelude.{◌≡◌};
-ghost use Rattle.svm_model.specs.InstructionBytes.{Reads, byte_at, word_at, double_at, quad_at};
+ghost use Rattle.svm_model.specs.Instructions.InstructionBytes.{Reads, byte_at, word_at, double_at, quad_at};
 
 use svm_model::Unread;
 
@@ -11,7 +11,7 @@ pub struct Input<'a> {
 }
 
 impl Input<'_> {
-    #[tactic(auto, unfolding(svm_model::specs::InstructionBytes::byte_at))]
+    #[tactic(auto, unfolding(svm_model::specs::Instructions::InstructionBytes::byte_at))]
     pub fn byte(&mut self) -> Result<u8, Unread>
         ensures { Reads result self.new.rest.now (byte_at self.old.rest.now) }
     {
@@ -22,7 +22,7 @@ impl Input<'_> {
         Ok(*byte)
     }
 
-    #[tactic(auto, unfolding(svm_model::specs::InstructionBytes::word_at))]
+    #[tactic(auto, unfolding(svm_model::specs::Instructions::InstructionBytes::word_at))]
     pub fn word(&mut self) -> Result<u16, Unread>
         ensures { Reads result self.new.rest.now (word_at self.old.rest.now) }
     {
@@ -31,7 +31,7 @@ impl Input<'_> {
         Ok(u16::from(low) + 0x100 * u16::from(high))
     }
 
-    #[tactic(auto, unfolding(svm_model::specs::InstructionBytes::double_at))]
+    #[tactic(auto, unfolding(svm_model::specs::Instructions::InstructionBytes::double_at))]
     pub fn double(&mut self) -> Result<u32, Unread>
         ensures { Reads result self.new.rest.now (double_at self.old.rest.now) }
     {
@@ -40,7 +40,7 @@ impl Input<'_> {
         Ok(u32::from(low) + 0x1_0000 * u32::from(high))
     }
 
-    #[tactic(auto, unfolding(svm_model::specs::InstructionBytes::quad_at))]
+    #[tactic(auto, unfolding(svm_model::specs::Instructions::InstructionBytes::quad_at))]
     pub fn quad(&mut self) -> Result<u64, Unread>
         ensures { Reads result self.new.rest.now (quad_at self.old.rest.now) }
     {

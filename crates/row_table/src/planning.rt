@@ -1,10 +1,10 @@
 // Where a row reads and writes.
 ghost use Rattle.std.specs.Prelude.{◌≡◌, ◌≤◌, ◌++◌, ◌+◌, IfSome, [], length};
 ghost use Rattle.std.specs.List.{All};
-ghost use Rattle.svm_model.specs.Branches.{popped};
-ghost use Rattle.svm_model.specs.Operands.{state};
-ghost use Rattle.svm_model.specs.Sources.{is_reversed, operand_width};
-ghost use Rattle.svm_model.specs.Planning.{IsQuadAtMost, touch_of, operand_touch, operand_bytes, is_lgdt_or_lidt, memory_accesses, operand_accesses, push_access, pop_access, stack_access, planned};
+ghost use Rattle.svm_model.specs.Instructions.Branches.{popped};
+ghost use Rattle.svm_model.specs.Instructions.Operands.{state};
+ghost use Rattle.svm_model.specs.Instructions.Sources.{is_reversed, operand_width};
+ghost use Rattle.svm_model.specs.Instructions.Planning.{IsQuadAtMost, touch_of, operand_touch, operand_bytes, is_lgdt_or_lidt, memory_accesses, operand_accesses, push_access, pop_access, stack_access, planned};
 
 use crate::columns::{is_reversed, operand_width};
 use arrayvec::ArrayVec;
@@ -12,7 +12,7 @@ use register_file::{RBP, RSP, is_memory, is_on_stack, linear_address, whole_regi
 use svm_model::{Op, PlannedAccess, Registers, Row, Touch, Width};
 
 /// What an instruction does to its memory operand, in the manual's order.
-#[tactic(auto, unfolding(svm_model::specs::Planning::touch_of))]
+#[tactic(auto, unfolding(svm_model::specs::Instructions::Planning::touch_of))]
 fn touch_of(op: Op) -> Option<Touch>
     ensures { result ≡ touch_of op }
 {
@@ -65,7 +65,7 @@ fn operand_bytes(row: &Row) -> u8
 }
 
 /// Whether the row loads the register of a descriptor table.
-#[tactic(auto, unfolding(svm_model::specs::Planning::is_lgdt_or_lidt))]
+#[tactic(auto, unfolding(svm_model::specs::Instructions::Planning::is_lgdt_or_lidt))]
 fn is_lgdt_or_lidt(op: Op) -> bool
     ensures { result ≡ is_lgdt_or_lidt op }
 {
@@ -106,7 +106,7 @@ fn plan_memory(row: &Row, address: u64, stack: bool, accesses: &mut ArrayVec<Pla
 }
 
 /// Adds the accesses to the operand.
-#[tactic(auto, unfolding(svm_model::specs::Planning::operand_accesses))]
+#[tactic(auto, unfolding(svm_model::specs::Instructions::Planning::operand_accesses))]
 fn plan_operand(
     row: &Row,
     registers: &Registers,
@@ -152,7 +152,7 @@ fn pop_access(address: u64) -> PlannedAccess
 }
 
 /// What an instruction pushes or pops.
-#[tactic(auto, unfolding(svm_model::specs::Planning::stack_access))]
+#[tactic(auto, unfolding(svm_model::specs::Instructions::Planning::stack_access))]
 fn stack_access(op: Op, registers: &Registers) -> Option<PlannedAccess>
     ensures value { result ≡ stack_access op registers.now }
     ensures lengths { IfSome result IsQuadAtMost }
@@ -182,7 +182,7 @@ fn after_pop(registers: &Registers) -> Registers
 /// operand after its read of the stack. A register operand, LEA, NOP and INVLPG access no memory; what the delivery of
 /// an event, IRETQ and the instructions of SVM access is not planned. Nothing is refused: also a row whose LOCK prefix
 /// makes it undefined has its accesses.
-#[tactic(auto, unfolding(svm_model::specs::Planning::planned))]
+#[tactic(auto, unfolding(svm_model::specs::Instructions::Planning::planned))]
 pub fn plan(row: &Row, registers: &Registers, next_rip: u64) -> ArrayVec<PlannedAccess, 8>
     ensures exact { result.items ≡ planned row.now registers.now next_rip }
     ensures lengths { All IsQuadAtMost result.items }

@@ -1,6 +1,6 @@
 // Legacy prefixes and the REX prefix.
 ghost use Rattle.std.specs.Prelude.{◌≡◌, ◌≤◌};
-ghost use Rattle.svm_model.specs.Prefixes.{with_prefix, no_prefix, prefixes_of, rex_of, rex_and_rest};
+ghost use Rattle.svm_model.specs.Instructions.Prefixes.{with_prefix, no_prefix, prefixes_of, rex_of, rex_and_rest};
 
 use crate::input::Input;
 use svm_model::{Prefixes, Rex};
@@ -31,7 +31,7 @@ fn with_prefix(prefixes: Prefixes, byte: u8) -> Option<Prefixes>
 }
 
 /// Reads all the legacy prefixes at the front.
-#[tactic(auto, unfolding(svm_model::specs::Prefixes::prefixes_of))]
+#[tactic(auto, unfolding(svm_model::specs::Instructions::Prefixes::prefixes_of))]
 pub fn read_prefixes(input: &mut Input) -> Prefixes
     ensures { prefixes_of no_prefix input.old.rest.now ≡ (result, input.new.rest.now) }
 {
@@ -65,7 +65,7 @@ fn rex_of(byte: u8) -> Rex
 }
 
 /// Reads the REX prefix, where one stands at the front.
-#[tactic(auto, unfolding(svm_model::specs::Prefixes::rex_and_rest))]
+#[tactic(auto, unfolding(svm_model::specs::Instructions::Prefixes::rex_and_rest))]
 pub fn read_rex(input: &mut Input) -> Rex
     ensures read { rex_and_rest input.old.rest.now ≡ (result, input.new.rest.now) }
     ensures register { result.register ≤ 8 }

@@ -1,7 +1,7 @@
 // What a line of the table says of an opcode, and the look-ups in the table.
 ghost use Rattle.std.specs.Prelude.{◌≡◌, ◌<◌, ◌≤◌, length};
-ghost use Rattle.svm_model.specs.RowLines.{opens, takes_size, meets, is_allowed, has_modrm, is_control, is_shift_digit, takes_modrm, leads, starts, matches, leading_line, first_line, fitting_line};
-ghost use Rattle.svm_model.specs.RowTable.{table};
+ghost use Rattle.svm_model.specs.Instructions.RowLines.{opens, takes_size, meets, is_allowed, has_modrm, is_control, is_shift_digit, takes_modrm, leads, starts, matches, leading_line, first_line, fitting_line};
+ghost use Rattle.svm_model.specs.Instructions.RowTable.{table};
 
 use svm_model::{OpcodeMap, OperandFields, OperandSize, Prefixes, Rex, RexNeeds, RowLine, TABLE};
 
@@ -117,7 +117,7 @@ fn matches(
 }
 
 /// Whether one of the lines is of the map, under these prefixes.
-#[tactic(auto, unfolding(svm_model::specs::RowLines::first_where))]
+#[tactic(auto, unfolding(svm_model::specs::Instructions::RowLines::first_where))]
 fn leading_of(lines: &[RowLine], prefixes: Prefixes, rex: Rex, map: OpcodeMap) -> Option<RowLine>
     ensures { result ≡ leading_line prefixes rex map lines.now }
 {
@@ -130,7 +130,7 @@ fn leading_of(lines: &[RowLine], prefixes: Prefixes, rex: Rex, map: OpcodeMap) -
 }
 
 /// The first of the lines with this opcode.
-#[tactic(auto, unfolding(svm_model::specs::RowLines::first_where))]
+#[tactic(auto, unfolding(svm_model::specs::Instructions::RowLines::first_where))]
 fn first_of(
     lines: &[RowLine],
     prefixes: Prefixes,
@@ -149,7 +149,7 @@ fn first_of(
 }
 
 /// The first of the lines with this opcode and ModRM byte.
-#[tactic(auto, unfolding(svm_model::specs::RowLines::first_where))]
+#[tactic(auto, unfolding(svm_model::specs::Instructions::RowLines::first_where))]
 fn fitting_of(
     lines: &[RowLine],
     prefixes: Prefixes,
@@ -170,7 +170,7 @@ fn fitting_of(
 }
 
 /// The lines of the table.
-#[tactic(auto, unfolding(svm_model::specs::RowTable::table))]
+#[tactic(auto, unfolding(svm_model::specs::Instructions::RowTable::table))]
 pub fn lines() -> &'static [RowLine]
     ensures value { result.now ≡ table }
     ensures count { length result.now ≡ 137 }

@@ -4,7 +4,7 @@ use Rattle.std.specs.List.{list_all}
 use Rattle.std.proofs.lemmas.List.{drop_all}
 use Rattle.std.proofs.Math.Nat.{le-mul_of_pos_right, mul_comm}
 use Rattle.std.proofs.lemmas.Bool.{le-ltb, lt-ltb}
-use Rattle.svm_model.specs.Script.{digit_of, digits_in, value_from}
+use Rattle.svm_model.specs.Formats.ScriptWords.{digit_of, digits_in, value_from}
 use Rattle.svm_model.specs.declared.formats.ScriptReason.{ScriptReason}
 use Rattle.svm_model.specs.declared.formats.ScriptReason.TheVariants.{Number}
 

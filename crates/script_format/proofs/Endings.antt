@@ -5,7 +5,7 @@ use Rattle.std.proofs.lemmas.List.Splits.{length-slice_split}
 use Rattle.std.proofs.lemmas.List.{append-nil, drop_all, length-map, map-append}
 use Rattle.std.proofs.lemmas.List.Sums.{count_by-le-length}
 use Rattle.std.proofs.lemmas.Bool.{ne_eqb}
-use Rattle.svm_model.specs.Script.{lines_in, lines_of, without_return}
+use Rattle.svm_model.specs.Formats.ScriptWords.{lines_in, lines_of, without_return}
 
 pub with_return : (front : List ℕ) (a : ℕ) → a ≡ 13 → without_return (front ++ a ∷ []) ≡ front
 with_return [] a h = rw h refl

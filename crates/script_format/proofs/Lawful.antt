@@ -6,10 +6,12 @@ use Rattle.std.specs.Str.{bytes_eq}
 use Rattle.std.specs.Option.{option_to_list}
 use Rattle.std.proofs.lemmas.Result.{IfOk-weaker}
 use Rattle.std.proofs.lemmas.Bool.{ltb-true, leb-true, and_parts}
-use Rattle.svm_model.specs.Bus.{device_count}
-use Rattle.svm_model.specs.Image.{Image}
-use Rattle.svm_model.specs.Script.{Script, ◌>>=◌, number_in, is_text, is_comment, words_of, lines_of, judged, vcpus_in, place_values, place_line, run_values, run_line, feed_values, feed_line, unplug_values, unplug_line, command, within_limit, said_by, said_in, said_of, at_line, count_of, event_limit, script_from, script_limit, script_of, IsLawfulLine, AreLawful, IsLawful, events_of}
-use Rattle.svm_model.specs.World.{Shape, image_shape}
+use Rattle.svm_model.specs.Machine.Bus.{device_count}
+use Rattle.svm_model.specs.Formats.Image.{Image}
+use Rattle.svm_model.specs.Formats.Script.{Script, at_line, count_of, script_from, script_limit, script_of, IsLawfulLine, AreLawful, IsLawful, events_of}
+use Rattle.svm_model.specs.Formats.ScriptLines.{judged, vcpus_in, place_values, place_line, run_values, run_line, feed_values, feed_line, unplug_values, unplug_line, command, within_limit, said_by, said_in, said_of, event_limit}
+use Rattle.svm_model.specs.Formats.ScriptWords.{◌>>=◌, number_in, is_text, is_comment, words_of, lines_of}
+use Rattle.svm_model.specs.Machine.Shapes.{Shape, image_shape}
 use Rattle.svm_model.specs.declared.formats.ScriptLine.{ScriptLine}
 use Rattle.svm_model.specs.declared.formats.ScriptReason.{ScriptReason}
 use Rattle.svm_model.specs.declared.formats.ScriptReason.TheVariants.{Bytes, Cpu, Vcpu, Device, Count, Value, Events}

@@ -7,8 +7,8 @@ use Rattle.std.proofs.lemmas.List.Concat.{get_or-flat_map}
 use Rattle.std.proofs.lemmas.List.Elements.{All-append, All-nil, All-replicate}
 use Rattle.std.proofs.lemmas.Grind.{flat_map-append}
 use Rattle.std.proofs.lemmas.Option.{slice_get-get_or, slice_get_within, get_or_from_slice_get}
-use Rattle.svm_model.specs.Script.{Script, AreLawful, IsLawful, events_of, events_of_line}
-use Rattle.svm_model.specs.World.{Shape, IsNamed}
+use Rattle.svm_model.specs.Formats.Script.{Script, AreLawful, IsLawful, events_of, events_of_line}
+use Rattle.svm_model.specs.Machine.Shapes.{Shape, IsNamed}
 use Rattle.svm_model.specs.declared.formats.ScriptLine.{ScriptLine}
 use Rattle.svm_model.specs.declared.names.Event.{Event}
 use Rattle.script_format.specs.Order.{AreInOrder}

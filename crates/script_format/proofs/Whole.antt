@@ -2,8 +2,10 @@
 use Rattle.std.proofs.Common.{◌≡◌, ℕ, ◌+◌, ◌≤◌, ◌<◌, ◌∙◌, List, [], ◌∷◌, ◌++◌, Option, None, Result, Ok, Err, length, map, drop, get_or, refl, sym, ap, append_assoc, arith, add-one, drop-cons, Bor}
 use Rattle.std.specs.Option.{option_to_list}
 use Rattle.std.proofs.lemmas.List.{append-nil, drop_all}
-use Rattle.svm_model.specs.Script.{Script, ScriptFault, ◌>>=◌, at_line, count_of, said_of, script_from}
-use Rattle.svm_model.specs.World.{Shape}
+use Rattle.svm_model.specs.Formats.Script.{Script, ScriptFault, at_line, count_of, script_from}
+use Rattle.svm_model.specs.Formats.ScriptLines.{said_of}
+use Rattle.svm_model.specs.Formats.ScriptWords.{◌>>=◌}
+use Rattle.svm_model.specs.Machine.Shapes.{Shape}
 use Rattle.svm_model.specs.declared.formats.ScriptLine.{ScriptLine}
 use Rattle.script_format.specs.declared.refusal.ScriptRefusal.{ScriptRefusal}
 use Rattle.script_format.specs.declared.refusal.ScriptRefusal.TheVariants.{Bad, NoMemory}

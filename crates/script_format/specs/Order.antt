@@ -1,8 +1,8 @@
 -- Where the events of a script stand.
 use Rattle.std.specs.Prelude.{◌≡◌, ◌<◌, ℕ, List, length, take}
 use Rattle.std.specs.List.{flat_map, slice_index_or}
-use Rattle.svm_model.specs.Script.{Script, IsLawful, events_of_line}
-use Rattle.svm_model.specs.World.{Shape}
+use Rattle.svm_model.specs.Formats.Script.{Script, IsLawful, events_of_line}
+use Rattle.svm_model.specs.Machine.Shapes.{Shape}
 use Rattle.svm_model.specs.declared.formats.ScriptLine.{ScriptLine}
 
 -- a script that is lawful for some image of so many processors

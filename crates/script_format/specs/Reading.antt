@@ -1,6 +1,6 @@
 -- What the code answers, beside what the definition says.
 use Rattle.std.specs.Prelude.{◌≡◌, Result, Ok, Err}
-use Rattle.svm_model.specs.Script.{Script, ScriptFault}
+use Rattle.svm_model.specs.Formats.Script.{Script, ScriptFault}
 use Rattle.script_format.specs.declared.refusal.ScriptRefusal.{ScriptRefusal}
 use Rattle.script_format.specs.declared.refusal.ScriptRefusal.TheVariants.{Bad, NoMemory}
 

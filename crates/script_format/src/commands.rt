@@ -1,10 +1,10 @@
 // What a line says that is no comment.
 
 ghost use Rattle.std.specs.Prelude.{◌≡◌, ◌≤◌, ◌<◌, [], ◌∷◌, map, nat_lt, slice_get, IfOk};
-ghost use Rattle.svm_model.specs.Image.{IsLawfulImage};
-ghost use Rattle.svm_model.specs.Bus.{device_count};
-ghost use Rattle.svm_model.specs.Script.{command, feed_line, feed_values, judged, line_of, place_line, place_values, run_line, run_values, unplug_line, unplug_values, vcpus_in, within_limit};
-ghost use Rattle.svm_model.specs.World.{image_shape};
+ghost use Rattle.svm_model.specs.Formats.LawfulImages.{IsLawfulImage};
+ghost use Rattle.svm_model.specs.Machine.Bus.{device_count};
+ghost use Rattle.svm_model.specs.Formats.ScriptLines.{command, feed_line, feed_values, judged, line_of, place_line, place_values, run_line, run_values, unplug_line, unplug_values, vcpus_in, within_limit};
+ghost use Rattle.svm_model.specs.Machine.Shapes.{image_shape};
 
 use crate::numbers::number_in;
 use image_format::Image;
@@ -74,7 +74,7 @@ fn place_values(
 }
 
 // All are numbers before the value of any is looked at.
-#[tactic(auto, unfolding(svm_model::specs::Script::place_line))]
+#[tactic(auto, unfolding(svm_model::specs::Formats::ScriptLines::place_line))]
 fn place_words(
     image: &Image,
     first: u32,
@@ -92,7 +92,7 @@ fn place_words(
 }
 
 // The words behind `place`: a processor, a guest and a vcpu of it.
-#[tactic(auto, unfolding(svm_model::specs::Script::place_line))]
+#[tactic(auto, unfolding(svm_model::specs::Formats::ScriptLines::place_line))]
 fn place_line(image: &Image, first: u32, words: &[&[u8]]) -> Result<ScriptLine, ScriptReason>
     requires lawful { IsLawfulImage image.now }
     ensures { result ≡ place_line (image_shape image.now) first (map (λ w. w.now) words.now) }
@@ -115,7 +115,7 @@ fn run_values(image: &Image, first: u32, cpu: u64, count: u64) -> Result<ScriptL
 }
 
 // Both are numbers before the value of any is looked at.
-#[tactic(auto, unfolding(svm_model::specs::Script::run_line))]
+#[tactic(auto, unfolding(svm_model::specs::Formats::ScriptLines::run_line))]
 fn run_words(
     image: &Image,
     first: u32,
@@ -130,7 +130,7 @@ fn run_words(
 }
 
 // The words behind `run`: a processor, and how often.
-#[tactic(auto, unfolding(svm_model::specs::Script::run_line))]
+#[tactic(auto, unfolding(svm_model::specs::Formats::ScriptLines::run_line))]
 fn run_line(image: &Image, first: u32, words: &[&[u8]]) -> Result<ScriptLine, ScriptReason>
     ensures { result ≡ run_line (image_shape image.now) first (map (λ w. w.now) words.now) }
 {
@@ -163,7 +163,7 @@ fn feed_values(first: u32, device: u64, value: u64) -> Result<ScriptLine, Script
 }
 
 // Both are numbers before the value of any is looked at.
-#[tactic(auto, unfolding(svm_model::specs::Script::feed_line))]
+#[tactic(auto, unfolding(svm_model::specs::Formats::ScriptLines::feed_line))]
 fn feed_words(first: u32, device: &[u8], value: &[u8]) -> Result<ScriptLine, ScriptReason>
     ensures { result ≡ feed_line first (device.now ∷ value.now ∷ []) }
 {
@@ -173,7 +173,7 @@ fn feed_words(first: u32, device: &[u8], value: &[u8]) -> Result<ScriptLine, Scr
 }
 
 // The words behind `feed`: a device, and the value that it is fed.
-#[tactic(auto, unfolding(svm_model::specs::Script::feed_line))]
+#[tactic(auto, unfolding(svm_model::specs::Formats::ScriptLines::feed_line))]
 fn feed_line(first: u32, words: &[&[u8]]) -> Result<ScriptLine, ScriptReason>
     ensures { result ≡ feed_line first (map (λ w. w.now) words.now) }
 {
@@ -183,7 +183,7 @@ fn feed_line(first: u32, words: &[&[u8]]) -> Result<ScriptLine, ScriptReason>
     feed_words(first, device, value)
 }
 
-#[tactic(auto, unfolding(svm_model::specs::Script::unplug_line))]
+#[tactic(auto, unfolding(svm_model::specs::Formats::ScriptLines::unplug_line))]
 fn unplug_word(first: u32, device: &[u8]) -> Result<ScriptLine, ScriptReason>
     ensures { result ≡ unplug_line first (device.now ∷ []) }
 {
@@ -193,7 +193,7 @@ fn unplug_word(first: u32, device: &[u8]) -> Result<ScriptLine, ScriptReason>
 }
 
 // The words behind `unplug`: a device.
-#[tactic(auto, unfolding(svm_model::specs::Script::unplug_line))]
+#[tactic(auto, unfolding(svm_model::specs::Formats::ScriptLines::unplug_line))]
 fn unplug_line(first: u32, words: &[&[u8]]) -> Result<ScriptLine, ScriptReason>
     ensures { result ≡ unplug_line first (map (λ w. w.now) words.now) }
 {

@@ -2,7 +2,7 @@
 
 ghost use Rattle.std.specs.Prelude.{◌≡◌, ◌≤◌, ◌<◌, ◌+◌, ◌↔◌, slice_get, length, take, IsNone};
 ghost use Rattle.std.specs.List.{flat_map};
-ghost use Rattle.svm_model.specs.Script.{events_of_line};
+ghost use Rattle.svm_model.specs.Formats.Script.{events_of_line};
 ghost use Rattle.script_format.specs.Order.{AreInOrder};
 
 use svm_model::{Event, ScriptLine};

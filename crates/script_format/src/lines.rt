@@ -2,7 +2,7 @@
 
 ghost use Rattle.std.specs.Prelude.{◌≡◌, ◌==◌, map, IfOk};
 ghost use Rattle.std.specs.List.{slice_split};
-ghost use Rattle.svm_model.specs.Script.{lines_in, lines_of, without_return};
+ghost use Rattle.svm_model.specs.Formats.ScriptWords.{lines_in, lines_of, without_return};
 
 use std::alloc::{AllocError, Global};
 

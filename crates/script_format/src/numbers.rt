@@ -2,7 +2,7 @@
 
 ghost use Rattle.std.specs.Prelude.{◌≡◌, ◌≤◌, ◌<◌, ◌+◌, ◌*◌, ◌^◌};
 ghost use Rattle.std.specs.Option.{SomeIff};
-ghost use Rattle.svm_model.specs.Script.{digit_of, digits_in, number_in};
+ghost use Rattle.svm_model.specs.Formats.ScriptWords.{digit_of, digits_in, number_in};
 
 use svm_model::ScriptReason;
 

@@ -1,9 +1,10 @@
 // Reads a whole script.
 
 ghost use Rattle.std.specs.Prelude.{◌≡◌, ◌≤◌, length, map, IfOk};
-ghost use Rattle.svm_model.specs.Image.{IsLawfulImage};
-ghost use Rattle.svm_model.specs.Script.{IsLawful, at_line, events_of, said_by, said_in, said_of, script_from, script_of};
-ghost use Rattle.svm_model.specs.World.{image_shape};
+ghost use Rattle.svm_model.specs.Formats.LawfulImages.{IsLawfulImage};
+ghost use Rattle.svm_model.specs.Formats.Script.{IsLawful, at_line, events_of, script_from, script_of};
+ghost use Rattle.svm_model.specs.Formats.ScriptLines.{said_by, said_in, said_of};
+ghost use Rattle.svm_model.specs.Machine.Shapes.{image_shape};
 ghost use Rattle.script_format.specs.Reading.{Gives, GivesScript};
 
 use crate::commands::{command, within_limit};
@@ -57,7 +58,7 @@ fn said_in(
 }
 
 // What the line of a number says, where so many events come before it.
-#[tactic(auto, unfolding(svm_model::specs::Script::said_of))]
+#[tactic(auto, unfolding(svm_model::specs::Formats::ScriptLines::said_of))]
 fn said_at(
     alloc: Global,
     image: &Image,
@@ -102,7 +103,7 @@ fn script_from(alloc: Global, image: &Image, lines: &[&[u8]]) -> Result<Script, 
 }
 
 // The number of the bytes is looked at before any of them.
-#[tactic(auto, unfolding(svm_model::specs::Script::script_of))]
+#[tactic(auto, unfolding(svm_model::specs::Formats::Script::script_of))]
 fn script_of(alloc: Global, bytes: &[u8], image: &Image) -> Result<Script, ScriptRefusal>
     requires lawful { IsLawfulImage image.now }
     ensures { GivesScript result (script_of bytes.now image.now) }

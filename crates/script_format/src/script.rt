@@ -1,8 +1,8 @@
 // A script: its lines and its events.
 
 ghost use Rattle.std.specs.Prelude.{◌≡◌, ◌≤◌, ◌↔◌, slice_get, IfSome, IsNone};
-ghost use Rattle.svm_model.specs.Script.{IsLawful, events_of};
-ghost use Rattle.svm_model.specs.World.{Shape, IsNamed};
+ghost use Rattle.svm_model.specs.Formats.Script.{IsLawful, events_of};
+ghost use Rattle.svm_model.specs.Machine.Shapes.{Shape, IsNamed};
 ghost use Rattle.script_format.specs.Order.{IsScriptFor};
 
 use crate::events::event_in;
@@ -18,7 +18,7 @@ pub struct Script {
 }
 
 impl Model for Script {
-    ghost use Rattle.svm_model.specs.Script.{Script as ScriptRecord};
+    ghost use Rattle.svm_model.specs.Formats.Script.{Script as ScriptRecord};
 
     ghost Value = { ScriptRecord };
 

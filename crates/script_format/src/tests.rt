@@ -1,5 +1,5 @@
 ghost use Rattle.std.specs.Prelude.{IfOk};
-ghost use Rattle.svm_model.specs.Image.{IsLawfulImage};
+ghost use Rattle.svm_model.specs.Formats.LawfulImages.{IsLawfulImage};
 
 use super::*;
 use image_format::{Image, parse_image};

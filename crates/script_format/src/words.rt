@@ -2,7 +2,7 @@
 
 ghost use Rattle.std.specs.Prelude.{◌≡◌, map, IfOk};
 ghost use Rattle.std.specs.List.{list_all, slice_split};
-ghost use Rattle.svm_model.specs.Script.{is_blank, is_comment, is_text, words_of};
+ghost use Rattle.svm_model.specs.Formats.ScriptWords.{is_blank, is_comment, is_text, words_of};
 
 use std::alloc::{AllocError, Global};
 

@@ -8,17 +8,17 @@ use Rattle.svm_model.specs.declared.rows.Op.TheVariants as op
 use Rattle.svm_model.specs.declared.rows.Row.{Row}
 use Rattle.svm_model.specs.declared.rows.Width.{Width}
 use Rattle.svm_model.specs.declared.traps.Trap.{Trap}
-use Rattle.svm_model.specs.Operands.{State, at_rip}
-use Rattle.svm_model.specs.Locking.{lock_is_undefined}
-use Rattle.svm_model.specs.Moves.{moves, movzx_extends, movsx_extends, lea_loads, cmovcc_moves, setcc_sets, cbw_extends, cwd_spreads_sign}
-use Rattle.svm_model.specs.Arithmetic.{adds, subtracts, compares, combines, tests_bits, not_inverts, negates, increments, decrements}
-use Rattle.svm_model.specs.ShiftRows.{shifts}
-use Rattle.svm_model.specs.MultiplyRows.{multiplies, multiplies_into_register, has_one_operand, multiplies_signed, divided, divides}
-use Rattle.svm_model.specs.BitRows.{bt_copies_bit, changes_bit, exchanges, exchanges_and_adds, compares_and_exchanges}
-use Rattle.svm_model.specs.Branches.{pushes, pops, leaves, jumps, jumps_where, calls, returns, pushed, popped, stack_place, target_of}
-use Rattle.svm_model.specs.RowNumbers.{op_number}
-use Rattle.svm_model.specs.UserRows.{is_user_row}
-use Rattle.svm_model.specs.Apply.{done_op, applied_op, applied, answer_of, state_after, leads_to}
+use Rattle.svm_model.specs.Instructions.Operands.{State, at_rip}
+use Rattle.svm_model.specs.Instructions.Locking.{lock_is_undefined}
+use Rattle.svm_model.specs.Instructions.Moves.{moves, movzx_extends, movsx_extends, lea_loads, cmovcc_moves, setcc_sets, cbw_extends, cwd_spreads_sign}
+use Rattle.svm_model.specs.Instructions.Arithmetic.{adds, subtracts, compares, combines, tests_bits, not_inverts, negates, increments, decrements}
+use Rattle.svm_model.specs.Instructions.ShiftRows.{shifts}
+use Rattle.svm_model.specs.Instructions.MultiplyRows.{multiplies, multiplies_into_register, has_one_operand, multiplies_signed, divided, divides}
+use Rattle.svm_model.specs.Instructions.BitRows.{bt_copies_bit, changes_bit, exchanges, exchanges_and_adds, compares_and_exchanges}
+use Rattle.svm_model.specs.Instructions.Branches.{pushes, pops, leaves, jumps, jumps_where, calls, returns, pushed, popped, stack_place, target_of}
+use Rattle.svm_model.specs.Instructions.RowNumbers.{op_number}
+use Rattle.svm_model.specs.Instructions.UserRows.{is_user_row}
+use Rattle.svm_model.specs.Instructions.Apply.{done_op, applied_op, applied, answer_of, state_after, leads_to}
 use Rattle.svm_model.proofs.RowTableLemmas.{user_rows_first}
 
 abbrev done : State → Result State Trap

@@ -1,11 +1,11 @@
 -- What the table of rows says of instructions, and that its columns agree: these compute.
 use Rattle.std.proofs.Common.{◌≡◌, refl}
 use Rattle.std.specs.Prelude.{nat_lt}
-use Rattle.svm_model.specs.RowColumns.{ColumnsAgree, numbers_from}
-use Rattle.svm_model.specs.RowNumbers.{form_number, op_number}
-use Rattle.svm_model.specs.UserRows.{is_user_row}
-use Rattle.svm_model.specs.RowTable.{table}
-use Rattle.svm_model.specs.RowLines.{first_where}
+use Rattle.svm_model.specs.Instructions.RowColumns.{ColumnsAgree, numbers_from}
+use Rattle.svm_model.specs.Instructions.RowNumbers.{form_number, op_number}
+use Rattle.svm_model.specs.Instructions.UserRows.{is_user_row}
+use Rattle.svm_model.specs.Instructions.RowTable.{table}
+use Rattle.svm_model.specs.Instructions.RowLines.{first_where}
 use Rattle.svm_model.specs.declared.rows.Op.{Op}
 use Rattle.svm_model.specs.declared.rows.Op.TheVariants as op
 

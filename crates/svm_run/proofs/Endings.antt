@@ -3,10 +3,11 @@ use Rattle.std.proofs.Common.{◌≡◌, ◌∙◌, ℕ, ◌≤◌, ◌<◌, ◌
 use Rattle.std.proofs.lemmas.Bool.Decides.{nat_tests}
 use Rattle.byte_shelf.specs.Shelf.{Files}
 use Rattle.byte_shelf.specs.Sink.{appended}
-use Rattle.svm_model.specs.Bus.{Bus}
-use Rattle.svm_model.specs.Image.{Image}
-use Rattle.svm_model.specs.Script.{Script, events_of}
-use Rattle.svm_model.specs.World.{World, Led, world_of, plain_run}
+use Rattle.svm_model.specs.Machine.Bus.{Bus}
+use Rattle.svm_model.specs.Formats.Image.{Image}
+use Rattle.svm_model.specs.Formats.Script.{Script, events_of}
+use Rattle.svm_model.specs.Machine.Runs.{Led, plain_run}
+use Rattle.svm_model.specs.Machine.World.{World, world_of}
 use Rattle.svm_model.specs.declared.names.Event.{Event}
 use Rattle.svm_run.specs.Answers.{Ends, EndsRun, EndsUnrun, HandsOverIt, IsCutAt, IsOfReading, IsReached, IsRefusedAt, Receives, ReceivesLine}
 use Rattle.svm_run.specs.Jobs.{Job, job, job_with_names, image_in, script_in}

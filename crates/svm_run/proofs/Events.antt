@@ -1,8 +1,10 @@
 -- The run of a script's first events.
 use Rattle.std.proofs.Common.{◌≡◌, ◌∙◌, ℕ, zero, suc, ◌+◌, List, [], ◌∷◌, ◌++◌, Some, take, length, slice_get, ap, sym, refl, arith, add-one}
 use Rattle.std.proofs.lemmas.List.{take_all}
-use Rattle.svm_model.specs.Bus.{Bus}
-use Rattle.svm_model.specs.World.{World, Led, plain_event, plain_run}
+use Rattle.svm_model.specs.Machine.Bus.{Bus}
+use Rattle.svm_model.specs.Machine.Events.{plain_event}
+use Rattle.svm_model.specs.Machine.Runs.{Led, plain_run}
+use Rattle.svm_model.specs.Machine.World.{World}
 use Rattle.svm_model.specs.declared.names.Event.{Event}
 
 -- what an event makes of what a run led to

@@ -1,10 +1,11 @@
 -- The report of a world of one guest with one vcpu.
 use Rattle.std.proofs.Common.{◌≡◌, ◌∙◌, ℕ, Bool, true, false, if◌then◌else◌, Option, Some, List, [], ◌∷◌, ◌++◌, length, map, ap, refl, arith, is_some, slice_get, append_assoc, append-nil}
 use Rattle.std.specs.Option.{option_map}
-use Rattle.svm_model.specs.Bus.{Bus}
-use Rattle.svm_model.specs.Guest.{Guest, level_in}
-use Rattle.svm_model.specs.Text.{report, events_line, guest_line, vcpu_line, out_lines, guest_lines, vcpu_lines}
-use Rattle.svm_model.specs.World.{World, Shape, world_shape, single}
+use Rattle.svm_model.specs.Machine.Bus.{Bus}
+use Rattle.svm_model.specs.Machine.Guest.{Guest, level_in}
+use Rattle.svm_model.specs.Formats.Text.{report, events_line, guest_line, vcpu_line, out_lines, guest_lines, vcpu_lines}
+use Rattle.svm_model.specs.Machine.Shapes.{Shape, world_shape, single}
+use Rattle.svm_model.specs.Machine.World.{World}
 use Rattle.svm_model.specs.declared.names.Ended.{Ended}
 use Rattle.svm_model.specs.declared.ports.PortWrite.{PortWrite}
 use Rattle.svm_model.specs.declared.register_file.Registers.{Registers}

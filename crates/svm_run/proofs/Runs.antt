@@ -1,10 +1,11 @@
 -- What a run of all events leads to, and how many there are.
 use Rattle.std.proofs.Common.{◌≡◌, ◌∙◌, ℕ, ◌+◌, ◌*◌, ◌≤◌, List, length, take, ap, refl, sym, subst, arith}
 use Rattle.std.proofs.Math.Seq.{take-length}
-use Rattle.svm_model.specs.Bus.{Bus}
-use Rattle.svm_model.specs.Image.{Image}
-use Rattle.svm_model.specs.Script.{Script, events_of}
-use Rattle.svm_model.specs.World.{World, Led, world_of, plain_run}
+use Rattle.svm_model.specs.Machine.Bus.{Bus}
+use Rattle.svm_model.specs.Formats.Image.{Image}
+use Rattle.svm_model.specs.Formats.Script.{Script, events_of}
+use Rattle.svm_model.specs.Machine.Runs.{Led, plain_run}
+use Rattle.svm_model.specs.Machine.World.{World, world_of}
 use Rattle.svm_model.specs.declared.names.Event.{Event}
 use Rattle.svm_model.proofs.WorldLemmas.{run-counted}
 use Rattle.svm_run.specs.Jobs.{Job, job}

@@ -2,9 +2,10 @@
 use Rattle.std.specs.Prelude.{◌≡◌, ◌⊎◌, ◌≤◌, ◌<◌, ℕ, List, [], Option, Some, None, Result, Ok, Err, length, slice_get, take}
 use Rattle.byte_shelf.specs.Sink.{appended, IsCutShort}
 use Rattle.fault_counts.specs.Causes.{Rose}
-use Rattle.svm_model.specs.Bus.{Bus}
-use Rattle.svm_model.specs.Script.{events_of}
-use Rattle.svm_model.specs.World.{World, HandsOver, plain_run}
+use Rattle.svm_model.specs.Machine.Bus.{Bus}
+use Rattle.svm_model.specs.Formats.Script.{events_of}
+use Rattle.svm_model.specs.Machine.Runs.{HandsOver, plain_run}
+use Rattle.svm_model.specs.Machine.World.{World}
 use Rattle.svm_model.specs.declared.names.Event.{Event}
 use Rattle.svm_model.specs.declared.names.RunEnd.TheVariants.{Device}
 use Rattle.port_bus.specs.Causes.{Blames}

@@ -4,9 +4,10 @@ use Rattle.std.specs.Prelude.{ℕ, List, Bool, true, false, if◌then◌else◌,
 use Rattle.byte_shelf.specs.Shelf.{Files, file_of, whole_file}
 use Rattle.byte_shelf.specs.declared.answers.ReadAll.{ReadAll}
 use Rattle.byte_shelf.specs.declared.answers.ReadAll.TheVariants.{Missing as NoFile, Failed, TooLong as TooManyBytes, NoMemory as NoRoom}
-use Rattle.svm_model.specs.Image.{Image as ImageRecord, ImageFault, image_of, image_limit}
-use Rattle.svm_model.specs.Script.{Script as ScriptRecord, ScriptFault, script_of, script_limit}
-use Rattle.svm_model.specs.World.{is_offered}
+use Rattle.svm_model.specs.Formats.Image.{Image as ImageRecord, ImageFault}
+use Rattle.svm_model.specs.Formats.ImageBytes.{image_of, image_limit}
+use Rattle.svm_model.specs.Formats.Script.{Script as ScriptRecord, ScriptFault, script_of, script_limit}
+use Rattle.svm_model.specs.Machine.Shapes.{is_offered}
 use Rattle.svm_model.specs.declared.formats.ImageReason.TheVariants.{TooLong as ImageTooLong, Count}
 use Rattle.svm_model.specs.declared.formats.ScriptReason.TheVariants.{TooLong as ScriptTooLong}
 use Rattle.svm_run.specs.Words.{names_of}

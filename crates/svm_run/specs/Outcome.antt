@@ -2,11 +2,12 @@
 -- events.
 use Rattle.std.specs.Prelude.{ℕ, ◌==◌, List, [], ◌∷◌, Bool, true, false, if◌then◌else◌, Option, Result, Ok, Err, is_some, length, take}
 use Rattle.byte_shelf.specs.Shelf.{Files}
-use Rattle.svm_model.specs.Bus.{Bus}
-use Rattle.svm_model.specs.Guest.{Guest}
-use Rattle.svm_model.specs.Script.{events_of}
-use Rattle.svm_model.specs.Text.{report}
-use Rattle.svm_model.specs.World.{Led, world_of, plain_run}
+use Rattle.svm_model.specs.Machine.Bus.{Bus}
+use Rattle.svm_model.specs.Machine.Guest.{Guest}
+use Rattle.svm_model.specs.Formats.Script.{events_of}
+use Rattle.svm_model.specs.Formats.Text.{report}
+use Rattle.svm_model.specs.Machine.Runs.{Led, plain_run}
+use Rattle.svm_model.specs.Machine.World.{world_of}
 use Rattle.svm_run.specs.Jobs.{Job, job_of}
 use Rattle.svm_run.specs.StatusLine.{status_line}
 use Rattle.svm_run.specs.declared.status.Status.{Status}

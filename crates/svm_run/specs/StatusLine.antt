@@ -1,7 +1,7 @@
 -- The line that a refusal prints.
 use Rattle.std.specs.Prelude.{ℕ, List, [], if◌then◌else◌, codes}
 use Rattle.std.specs.Fmt.{decimal}
-use Rattle.svm_model.specs.Text.{◌⧺◌, newline, image_reason_name, script_reason_name}
+use Rattle.svm_model.specs.Formats.Text.{◌⧺◌, newline, image_reason_name, script_reason_name}
 use Rattle.svm_model.specs.declared.formats.ImageReason.{ImageReason}
 use Rattle.svm_model.specs.declared.formats.ScriptReason.{ScriptReason}
 use Rattle.svm_run.specs.declared.status.Status.{Status}

@@ -1,8 +1,9 @@
 // Reads the image and the script.
 ghost use Rattle.std.specs.Prelude.{◌≡◌, ◌≤◌, ◌+◌, ℕ, true, length, IfOk, IfErr, IfSome};
-ghost use Rattle.svm_model.specs.Image.{IsLawfulImage, image_of};
-ghost use Rattle.svm_model.specs.Script.{IsLawful, events_of, script_of};
-ghost use Rattle.svm_model.specs.World.{image_shape, is_offered as offered_test, is_offered_guest, is_offered_vcpu};
+ghost use Rattle.svm_model.specs.Formats.ImageBytes.{image_of};
+ghost use Rattle.svm_model.specs.Formats.LawfulImages.{IsLawfulImage};
+ghost use Rattle.svm_model.specs.Formats.Script.{IsLawful, events_of, script_of};
+ghost use Rattle.svm_model.specs.Machine.Shapes.{image_shape, is_offered as offered_test, is_offered_guest, is_offered_vcpu};
 ghost use Rattle.svm_run.specs.Answers.{IsAsTold, IsOfReading};
 ghost use Rattle.svm_run.specs.Jobs.{image_in, image_said, script_in, script_said};
 

@@ -1,8 +1,8 @@
 // The report of a run.
 ghost use Rattle.std.specs.Prelude.{◌≡◌, ◌++◌, Bool, List, Option, IfOk};
-ghost use Rattle.svm_model.specs.Bus.{Device};
-ghost use Rattle.svm_model.specs.Text.{report as report_of};
-ghost use Rattle.svm_model.specs.World.{world_shape, single};
+ghost use Rattle.svm_model.specs.Machine.Bus.{Device};
+ghost use Rattle.svm_model.specs.Formats.Text.{report as report_of};
+ghost use Rattle.svm_model.specs.Machine.Shapes.{world_shape, single};
 ghost use Rattle.svm_run.specs.Outcome.{has_ended as ended_test};
 
 use plain_machine::PlainMachine;

@@ -1,7 +1,8 @@
 // Runs a script's events on the machine.
 ghost use Rattle.std.specs.Prelude.{◌≡◌, ◌+◌, ◌*◌, ◌≤◌, false, length, OnOk, OnErr, IfErr};
-ghost use Rattle.svm_model.specs.Script.{IsLawful, events_of};
-ghost use Rattle.svm_model.specs.World.{world_shape, plain_run};
+ghost use Rattle.svm_model.specs.Formats.Script.{IsLawful, events_of};
+ghost use Rattle.svm_model.specs.Machine.Runs.{plain_run};
+ghost use Rattle.svm_model.specs.Machine.Shapes.{world_shape};
 ghost use Rattle.port_bus.specs.Causes.{Blames, NoneFell};
 ghost use Rattle.svm_run.specs.Answers.{IsCutAt};
 

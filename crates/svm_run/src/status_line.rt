@@ -1,7 +1,7 @@
 // The line that a refusal prints, in a fixed array, so that it needs no memory.
 ghost use Rattle.std.specs.Prelude.{◌≡◌, ◌+◌, ◌≤◌, ◌++◌, [], length, codes};
 ghost use Rattle.std.specs.Fmt.{decimal};
-ghost use Rattle.svm_model.specs.Text.{◌⧺◌, newline, image_reason_name as image_name, script_reason_name as script_name};
+ghost use Rattle.svm_model.specs.Formats.Text.{◌⧺◌, newline, image_reason_name as image_name, script_reason_name as script_name};
 ghost use Rattle.svm_run.specs.StatusLine.{device_line, image_line, script_line, status_line};
 
 use crate::status::{InputFault, OutsideFault, Status};

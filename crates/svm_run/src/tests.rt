@@ -1,7 +1,7 @@
 // Jobs over a shelf and a sink in memory, some of whose calls fail. The texts are worked out by hand from the formats.
 ghost use Rattle.std.specs.Prelude.{◌≡◌, ◌<◌, true, false, length};
-ghost use Rattle.svm_model.specs.Image.{IsLawfulImage};
-ghost use Rattle.svm_model.specs.World.{is_offered, single, world_shape};
+ghost use Rattle.svm_model.specs.Formats.LawfulImages.{IsLawfulImage};
+ghost use Rattle.svm_model.specs.Machine.Shapes.{is_offered, single, world_shape};
 
 use crate::inputs::accept_image;
 use crate::status::{InputFault, OutsideFault, Status};

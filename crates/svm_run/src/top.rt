@@ -1,16 +1,16 @@
 // The top call: what the program does with its words.
 ghost use Rattle.std.specs.Prelude.{◌≡◌, ◌⊎◌, ◌≤◌, ◌+◌, ◌*◌, true, length, map, List, Option, ℕ, None, IfSome};
 ghost use Rattle.fault_counts.specs.Causes.{Rose};
-ghost use Rattle.svm_model.specs.Image.{IsLawfulImage};
-ghost use Rattle.svm_model.specs.Script.{IsLawful, events_of};
-ghost use Rattle.svm_model.specs.World.{image_shape, world_shape, single, is_offered as offered_test};
+ghost use Rattle.svm_model.specs.Formats.LawfulImages.{IsLawfulImage};
+ghost use Rattle.svm_model.specs.Formats.Script.{IsLawful, events_of};
+ghost use Rattle.svm_model.specs.Machine.Shapes.{image_shape, world_shape, single, is_offered as offered_test};
 ghost use Rattle.svm_run.specs.Answers.{Ends, EndsRun, HasCause, IsBeforeRun, IsDetermined, IsReached, IsRefusedAt, Receives, ReceivesLine};
 ghost use Rattle.svm_run.specs.Jobs.{job, job_of, Job};
 ghost use Rattle.svm_run.specs.Outcome.{outcome_of, outcome_after, completed};
 ghost use Rattle.svm_run.specs.StatusLine.{status_line};
 ghost use Rattle.svm_run.specs.Statuses.{meaning_of};
 ghost use Rattle.svm_run.specs.Words.{names_of};
-ghost use Rattle.svm_model.specs.Bus.{Bus as BusRecord};
+ghost use Rattle.svm_model.specs.Machine.Bus.{Bus as BusRecord};
 
 use crate::inputs::{open_image, open_script};
 use crate::report::{has_ended, report};

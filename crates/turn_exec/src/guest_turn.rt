@@ -1,7 +1,8 @@
 // A turn in its guest's memory.
 ghost use Rattle.std.specs.Prelude.{◌≡◌, ℕ, ◌+◌, ◌*◌, ◌%◌, ◌<◌, ◌≤◌, Bool, true, false, List, Option, is_some, length, IfOk, OnErr, if◌then◌else◌};
-ghost use Rattle.svm_model.specs.Bytes.{IsWithin, SameOutside, guest_of};
-ghost use Rattle.svm_model.specs.Course.{Course, frames_after, heard, is_refused, numbered};
+ghost use Rattle.svm_model.specs.Memory.Bytes.{IsWithin, SameOutside, guest_of};
+ghost use Rattle.svm_model.specs.Turn.Course.{Course};
+ghost use Rattle.svm_model.specs.Turn.Play.{frames_after, heard, is_refused, numbered};
 ghost use Rattle.svm_model.specs.declared.names.RunEnd.{RunEnd as RunEndRecord};
 ghost use Rattle.svm_model.specs.declared.page_tables.Outer.TheVariants.{Direct};
 ghost use Rattle.svm_model.specs.declared.turns.Translated.{Translated as TranslatedRecord};

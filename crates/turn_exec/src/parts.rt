@@ -1,7 +1,8 @@
 // Translates parts of pages, and reads and writes in their frames.
 ghost use Rattle.std.specs.Prelude.{◌≡◌, ℕ, ◌+◌, ◌*◌, ◌/◌, ◌%◌, ◌^◌, ◌<◌, ◌≤◌, List, length, take, drop, true, IfOk, OnErr};
-ghost use Rattle.svm_model.specs.Bytes.{IsWithin, SameOutside, guest_of, put_at};
-ghost use Rattle.svm_model.specs.Course.{Told, access_of, apic_frame, located, missed_at, place_in, told_of, translated};
+ghost use Rattle.svm_model.specs.Memory.Bytes.{IsWithin, SameOutside, guest_of, put_at};
+ghost use Rattle.svm_model.specs.Turn.Course.{Told, told_of};
+ghost use Rattle.svm_model.specs.Turn.Play.{access_of, apic_frame, located, missed_at, place_in, translated};
 ghost use Rattle.turn_exec.specs.Follows.{Finds, IsInside, IsPhysical, Needs};
 
 use crate::translator::Translator;

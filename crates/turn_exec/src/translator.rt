@@ -1,7 +1,7 @@
 // What translates the accesses of a turn.
 ghost use Rattle.std.specs.Prelude.{◌≡◌, ℕ, ◌+◌, ◌%◌, ◌≤◌, Bool, true, List, ◌∷◌, IfOk, OnErr};
-ghost use Rattle.svm_model.specs.Bytes.{IsWithin, SameOutside, guest_of};
-ghost use Rattle.svm_model.specs.Course.{Flushed, Told, told_of};
+ghost use Rattle.svm_model.specs.Memory.Bytes.{IsWithin, SameOutside, guest_of};
+ghost use Rattle.svm_model.specs.Turn.Course.{Flushed, Told, told_of};
 ghost use Rattle.turn_exec.specs.Follows.{IsPhysical, Needs, Walks};
 
 use host_memory::{GuestWindow, HostMemory, Steps};

@@ -1,9 +1,10 @@
 // The turn of a vcpu in its guest's memory.
 ghost use Rattle.std.specs.Prelude.{◌*◌, ◌≡◌, ◌+◌, ◌%◌, ◌≤◌, [], false, is_some, List, None};
 ghost use Rattle.port_bus.specs.Causes.{NoneFell};
-ghost use Rattle.svm_model.specs.Bytes.{IsWithin, SameOutside, guest_of};
-ghost use Rattle.svm_model.specs.Course.{Told, play};
-ghost use Rattle.svm_model.specs.Work.{turn_course};
+ghost use Rattle.svm_model.specs.Memory.Bytes.{IsWithin, SameOutside, guest_of};
+ghost use Rattle.svm_model.specs.Turn.Course.{Told};
+ghost use Rattle.svm_model.specs.Turn.Play.{play};
+ghost use Rattle.svm_model.specs.Turn.Work.{turn_course};
 ghost use Rattle.turn_exec.specs.Follows.{Ensues};
 ghost use Rattle.turn_exec.specs.Plays.{board_with, IsBlamed, refused_at};
 

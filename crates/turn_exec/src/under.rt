@@ -1,8 +1,8 @@
 // What a turn is under.
 ghost use Rattle.std.specs.Prelude.{◌≡◌, ℕ, Bool, Option, None};
-ghost use Rattle.svm_model.specs.Control.{asid_of, asks, facts_under, masks_interrupts, offers_apic, owns_gif, Control as ControlRecord};
-ghost use Rattle.svm_model.specs.Faults.{exit_under};
-ghost use Rattle.svm_model.specs.Intercepts.{asks_shutdown as shutdown_test};
+ghost use Rattle.svm_model.specs.Turn.Control.{asid_of, asks, facts_under, masks_interrupts, offers_apic, owns_gif, Control as ControlRecord};
+ghost use Rattle.svm_model.specs.Turn.Faults.{exit_under};
+ghost use Rattle.svm_model.specs.Svm.Intercepts.{asks_shutdown as shutdown_test};
 
 use svm_model::{Exit, Facts, Trap, Vcpu};
 

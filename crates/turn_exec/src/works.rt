@@ -1,10 +1,10 @@
 // What a turn does: the first work that is due, and the events that are taken.
 ghost use Rattle.std.specs.Prelude.{◌≡◌, ℕ, ◌+◌, ◌<◌, ◌≤◌, Bool, false, None, Option};
-ghost use Rattle.svm_model.specs.Control.{interrupt_flag as flag_test, turn_by, with_live_irq, Control as ControlRecord};
-ghost use Rattle.svm_model.specs.Course.{Course};
-ghost use Rattle.svm_model.specs.Faults.{came as came_to, finished as finished_course, Came as CameRecord};
-ghost use Rattle.svm_model.specs.Instruction.{instruction as instruction_course};
-ghost use Rattle.svm_model.specs.Work.{course_of, done as done_course, inject as inject_course, next_work as first_work, take_interrupt as interrupt_course, take_nmi as nmi_course, take_virtual as virtual_course, taken_by, turn_course};
+ghost use Rattle.svm_model.specs.Turn.Control.{interrupt_flag as flag_test, turn_by, with_live_irq, Control as ControlRecord};
+ghost use Rattle.svm_model.specs.Turn.Course.{Course};
+ghost use Rattle.svm_model.specs.Turn.Faults.{came as came_to, finished as finished_course, Came as CameRecord};
+ghost use Rattle.svm_model.specs.Turn.Instruction.{instruction as instruction_course};
+ghost use Rattle.svm_model.specs.Turn.Work.{course_of, done as done_course, inject as inject_course, next_work as first_work, take_interrupt as interrupt_course, take_nmi as nmi_course, take_virtual as virtual_course, taken_by, turn_course};
 ghost use Rattle.svm_model.specs.declared.vcpus.Inside.{Inside as InsideRecord};
 ghost use Rattle.turn_exec.specs.Goes.{Goes};
 
@@ -23,7 +23,7 @@ fn interrupt_flag(registers: &Registers) -> bool
 }
 
 /// The first work that is due. Nothing is virtual where there is nothing that the turn is under.
-#[tactic(auto, unfolding(svm_model::specs::Work::next_work))]
+#[tactic(auto, unfolding(svm_model::specs::Turn::Work::next_work))]
 fn next_work<C: Under>(control: &C, vcpu: &Vcpu, interrupt: Option<u8>) -> Work
     requires alone { C.control control.now ≡ None }
     ensures { result ≡ first_work (turn_by (C.control control.now) vcpu.now interrupt) }
@@ -171,7 +171,7 @@ fn execute<M: Reach, C: Under, R: SystemRows>(
 /// At most 224 calls may cost reads: 4 in the fetch of an instruction (two translations and two reads), 12 in three accesses
 /// of two parts each, 32 in a return from a handler, and 176 in four deliveries, of which each has ten accesses of two parts
 /// and some reads, 44.
-#[tactic(auto, unfolding(svm_model::specs::Work::course_of))]
+#[tactic(auto, unfolding(svm_model::specs::Turn::Work::course_of))]
 pub fn turn<M: Reach, C: Under, R: SystemRows>(
     reach: &mut M,
     control: &C,

@@ -1,6 +1,6 @@
 // Canonical addresses (volume 1, 'Canonical Address Form').
 ghost use Rattle.std.specs.Prelude.{◌≡◌, ◌≤◌, ◌+◌, ◌%◌};
-ghost use Rattle.svm_model.specs.RegisterFile.{is_canonical, AreCanonicalAlike};
+ghost use Rattle.svm_model.specs.Memory.RegisterFile.{is_canonical, AreCanonicalAlike};
 
 /// Whether bits 63:48 of the address copy bit 47.
 pub fn is_canonical(address: u64) -> bool

@@ -3,7 +3,7 @@ use Rattle.std.specs.Prelude.{◌*ℤ◌}
 use Rattle.std.specs.Int.{w128}
 use Rattle.std.proofs.lemmas.Int.{to_z-of_z}
 use Rattle.std.proofs.lemmas.Grind.{common_steps}
-use Rattle.svm_model.specs.Widths.{bits, as_signed}
+use Rattle.svm_model.specs.Instructions.Widths.{bits, as_signed}
 use Rattle.flag_math.proofs.Words.{signed_halves}
 use Rattle.flag_math.proofs.divisions.signed_dividend.Goals as goal
 

@@ -2,8 +2,8 @@ use Rattle.std.proofs.Common.{◌≡◌, ℤ, true, FitsSigned, to_z, of_z, sym,
 use Rattle.std.specs.Int.{w128}
 use Rattle.std.specs.Prelude.{int_div, int_rem}
 use Rattle.std.proofs.lemmas.Int.{to_z-of_z, rem_is}
-use Rattle.svm_model.specs.Widths.{bits, bits_for, fits_signed}
-use Rattle.svm_model.specs.Products.{dividend_of, quotient_of}
+use Rattle.svm_model.specs.Instructions.Widths.{bits, bits_for, fits_signed}
+use Rattle.svm_model.specs.Instructions.Products.{dividend_of, quotient_of}
 use Rattle.flag_math.proofs.Quotients.{division_that_fits}
 use Rattle.flag_math.proofs.divisions.signed_division.Goals as goal
 

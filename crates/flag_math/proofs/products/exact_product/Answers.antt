@@ -2,7 +2,7 @@ use Rattle.std.proofs.Common.{◌^◌, ℤ, FitsSigned, to_z, of_z, ap, ◌∙�
 use Rattle.std.specs.Prelude.{◌*ℤ◌}
 use Rattle.std.specs.Int.{w128}
 use Rattle.std.proofs.lemmas.Int.{to_z-of_z, fits_signed_mul}
-use Rattle.svm_model.specs.Widths.{bits, as_signed}
+use Rattle.svm_model.specs.Instructions.Widths.{bits, as_signed}
 use Rattle.flag_math.proofs.products.exact_product.Goals as goal
 
 pub returns : goal.returns

@@ -1,6 +1,6 @@
 use Rattle.std.proofs.Common.{◌≡◌, ◌<◌, ◌^◌}
-use Rattle.svm_model.specs.Widths.{bits}
-use Rattle.svm_model.specs.Shifts.{moved_by}
+use Rattle.svm_model.specs.Instructions.Widths.{bits}
+use Rattle.svm_model.specs.Instructions.Shifts.{moved_by}
 use Rattle.flag_math.proofs.shifts.moved_by.Given as goal
 
 abbrev pub invariant-loop-turn : goal.invariant-loop-turn

@@ -1,5 +1,5 @@
 use Rattle.std.proofs.lemmas.Result.{err_from_is_err_and}
-use Rattle.svm_model.specs.Image.{guest_in, many_in}
+use Rattle.svm_model.specs.Formats.ImageBytes.{guest_in, many_in}
 use Rattle.image_format.specs.Reading.{left}
 use Rattle.image_format.proofs.Many.{goes_on, ends, is_done}
 use Rattle.image_format.proofs.guest.guests_in.Goals as goal

@@ -1,5 +1,5 @@
 use Rattle.std.proofs.Common.{◌≡◌, ◌-◌}
-use Rattle.svm_model.specs.Image.{guest_in, many_in}
+use Rattle.svm_model.specs.Formats.ImageBytes.{guest_in, many_in}
 use Rattle.image_format.specs.Reading.{left}
 use Rattle.image_format.proofs.Many.{with_front}
 use Rattle.image_format.proofs.guest.guests_in.Given as goal

@@ -1,5 +1,5 @@
 use Rattle.std.proofs.lemmas.Result.{err_from_is_err_and}
-use Rattle.svm_model.specs.Image.{segment_in, many_in}
+use Rattle.svm_model.specs.Formats.ImageBytes.{segment_in, many_in}
 use Rattle.image_format.specs.Reading.{left}
 use Rattle.image_format.proofs.Many.{goes_on, ends, is_done}
 use Rattle.image_format.proofs.segment.segments_in.Goals as goal

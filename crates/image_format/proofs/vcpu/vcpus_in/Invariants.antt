@@ -1,5 +1,6 @@
 use Rattle.std.proofs.Common.{◌≡◌, ◌-◌}
-use Rattle.svm_model.specs.Image.{vcpu_in, many_in}
+use Rattle.svm_model.specs.Formats.ImageBytes.{many_in}
+use Rattle.svm_model.specs.Formats.ImageVcpus.{vcpu_in}
 use Rattle.image_format.specs.Reading.{left}
 use Rattle.image_format.proofs.Many.{with_front}
 use Rattle.image_format.proofs.vcpu.vcpus_in.Given as goal

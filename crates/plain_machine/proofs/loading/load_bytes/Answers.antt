@@ -1,7 +1,7 @@
 use Rattle.std.proofs.Common.{arith, ◌≡◌, ◌∙◌, ◌+◌, ◌≤◌, ap, ℕ, List, take, drop, length}
 use Rattle.std.proofs.lemmas.List.{take_at}
 use Rattle.std.proofs.lemmas.Grind.{common_steps}
-use Rattle.svm_model.specs.Bytes.{put_at, guest_of}
+use Rattle.svm_model.specs.Memory.Bytes.{put_at, guest_of}
 use Rattle.svm_model.proofs.WindowLemmas.{same_outside-then, is_within-after, length-guest_of}
 use Rattle.svm_model.proofs.PutLemmas.{put_at-next}
 use Rattle.plain_machine.proofs.loading.load_bytes.Goals as goal

@@ -1,5 +1,5 @@
 use Rattle.std.proofs.Common.{◌≡◌, ◌≤◌, ◌-◌, length, take}
-use Rattle.svm_model.specs.Bytes.{IsWithin, SameOutside, guest_of, put_at}
+use Rattle.svm_model.specs.Memory.Bytes.{IsWithin, SameOutside, guest_of, put_at}
 use Rattle.plain_machine.proofs.loading.load_bytes.Given as goal
 
 -- the bytes so far are put

@@ -1,6 +1,6 @@
 use Rattle.std.proofs.Common.{◌≡◌, drop}
-use Rattle.svm_model.specs.Bytes.{IsWithin, SameOutside, guest_of}
-use Rattle.svm_model.specs.World.{loaded}
+use Rattle.svm_model.specs.Memory.Bytes.{IsWithin, SameOutside, guest_of}
+use Rattle.svm_model.specs.Machine.World.{loaded}
 use Rattle.plain_machine.proofs.loading.load_segments.Given as goal
 
 -- loading what is left leads where loading all leads

@@ -1,6 +1,6 @@
 use Rattle.std.proofs.Common.{◌≡◌, ◌++◌, string_bytes, take}
 use Rattle.std.specs.List.{flat_map}
-use Rattle.svm_model.specs.Text.{register_text}
+use Rattle.svm_model.specs.Formats.Text.{register_text}
 use Rattle.report_text.proofs.lines.push_registers.Given as goal
 
 -- the registers so far are written behind the text

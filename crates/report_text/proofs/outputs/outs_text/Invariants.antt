@@ -1,6 +1,6 @@
 use Rattle.std.proofs.Common.{◌≡◌, take}
 use Rattle.std.specs.List.{flat_map}
-use Rattle.svm_model.specs.Text.{guest_out_line}
+use Rattle.svm_model.specs.Formats.Text.{guest_out_line}
 use Rattle.report_text.proofs.outputs.outs_text.Given as goal
 
 -- the lines of the writes so far

@@ -1,5 +1,5 @@
 use Rattle.std.proofs.Common.{ap, sym, ◌∙◌}
-use Rattle.svm_model.specs.Operands.{State, state}
+use Rattle.svm_model.specs.Instructions.Operands.{State, state}
 use Rattle.svm_model.proofs.LeadsLemmas.{applied-moves_on}
 use Rattle.row_exec.proofs.applying.apply.Goals as goal
 

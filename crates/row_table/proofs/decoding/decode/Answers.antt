@@ -1,6 +1,6 @@
 use Rattle.std.proofs.Common.{◌++◌, subst, sym, ap, ◌∙◌, arith}
-use Rattle.svm_model.specs.Rows.{decoded, IsDecoded}
-use Rattle.svm_model.specs.Spelling.{IsDecodedSpelling}
+use Rattle.svm_model.specs.Instructions.Rows.{decoded, IsDecoded}
+use Rattle.svm_model.specs.Instructions.Spelling.{IsDecodedSpelling}
 use Rattle.row_table.proofs.Exact.{decoded_is, decoded-front, decoded-begun, decoded-left, decoded-few}
 use Rattle.row_table.proofs.Spelled.{IsForm-from_spelled}
 use Rattle.row_table.proofs.Spellings.{are_bytes, decoded_spells}

@@ -1,5 +1,5 @@
 use Rattle.std.proofs.Common.{◌≡◌, ap, ◌∙◌, Ok, arith}
-use Rattle.svm_model.specs.Decoding.{row_at, form_at}
+use Rattle.svm_model.specs.Instructions.Decoding.{row_at, form_at}
 use Rattle.row_table.proofs.Exact.{Shortens, form_shortens}
 use Rattle.row_table.proofs.decoding.read_form.Goals as goal
 use Rattle.row_table.proofs.decoding.read_form.Goals.{In-Ok}

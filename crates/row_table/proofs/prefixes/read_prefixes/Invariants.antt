@@ -1,5 +1,5 @@
 use Rattle.std.proofs.Common.{◌≡◌, length}
-use Rattle.svm_model.specs.Prefixes.{no_prefix, prefixes_of}
+use Rattle.svm_model.specs.Instructions.Prefixes.{no_prefix, prefixes_of}
 use Rattle.row_table.proofs.prefixes.read_prefixes.Given as goal
 
 abbrev pub invariant-loop-byte : goal.invariant-loop-byte

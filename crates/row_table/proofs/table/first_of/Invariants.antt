@@ -1,5 +1,5 @@
 use Rattle.std.proofs.Common.{◌≡◌, drop}
-use Rattle.svm_model.specs.RowLines.{first_line}
+use Rattle.svm_model.specs.Instructions.RowLines.{first_line}
 use Rattle.row_table.proofs.table.first_of.Given as goal
 
 abbrev pub invariant-loop-line : goal.invariant-loop-line

@@ -1,5 +1,5 @@
 use Rattle.std.proofs.Common.{◌≡◌, drop}
-use Rattle.svm_model.specs.RowLines.{fitting_line}
+use Rattle.svm_model.specs.Instructions.RowLines.{fitting_line}
 use Rattle.row_table.proofs.table.fitting_of.Given as goal
 
 abbrev pub invariant-loop-line : goal.invariant-loop-line

@@ -1,5 +1,5 @@
 use Rattle.std.proofs.Common.{◌≡◌, drop}
-use Rattle.svm_model.specs.RowLines.{leading_line}
+use Rattle.svm_model.specs.Instructions.RowLines.{leading_line}
 use Rattle.row_table.proofs.table.leading_of.Given as goal
 
 abbrev pub invariant-loop-line : goal.invariant-loop-line

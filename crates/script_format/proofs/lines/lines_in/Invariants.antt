@@ -1,5 +1,5 @@
 use Rattle.std.proofs.Common.{◌≡◌, ◌++◌, drop, map}
-use Rattle.svm_model.specs.Script.{without_return}
+use Rattle.svm_model.specs.Formats.ScriptWords.{without_return}
 use Rattle.script_format.proofs.lines.lines_in.Given as goal
 
 -- the lines so far, and those of the pieces that are left

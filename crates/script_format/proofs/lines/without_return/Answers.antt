@@ -1,5 +1,5 @@
 use Rattle.std.proofs.Common.{◌∙◌, ap, sym}
-use Rattle.svm_model.specs.Script.{without_return}
+use Rattle.svm_model.specs.Formats.ScriptWords.{without_return}
 use Rattle.script_format.proofs.Endings.{with_return, with_no_return}
 use Rattle.script_format.proofs.lines.without_return.Goals as goal
 

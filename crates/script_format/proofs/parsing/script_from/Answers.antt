@@ -1,6 +1,6 @@
 use Rattle.std.proofs.Common.{◌∙◌, ◌+◌, ◌≤◌, Some, Ok, ap, arith}
 use Rattle.std.proofs.lemmas.Result.{err_from_is_err_and}
-use Rattle.svm_model.specs.World.{image_shape}
+use Rattle.svm_model.specs.Machine.Shapes.{image_shape}
 use Rattle.script_format.proofs.Lawful.{few_behind}
 use Rattle.script_format.proofs.Whole.{goes_on, goes_past, ends, is_done}
 use Rattle.script_format.proofs.parsing.script_from.Goals as goal

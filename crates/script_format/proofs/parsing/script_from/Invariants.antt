@@ -1,6 +1,6 @@
 use Rattle.std.proofs.Common.{◌≡◌, ◌≤◌, ◌+◌, drop, map}
-use Rattle.svm_model.specs.Script.{script_from}
-use Rattle.svm_model.specs.World.{image_shape}
+use Rattle.svm_model.specs.Formats.Script.{script_from}
+use Rattle.svm_model.specs.Machine.Shapes.{image_shape}
 use Rattle.script_format.proofs.Whole.{with_front}
 use Rattle.script_format.proofs.parsing.script_from.Given as goal
 

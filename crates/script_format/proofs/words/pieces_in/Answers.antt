@@ -1,7 +1,7 @@
 use Rattle.std.proofs.Common.{rules}
 use Rattle.std.proofs.lemmas.Iterator.Consumers.{map_from_collect}
 use Rattle.std.proofs.lemmas.Iterator.Splits.{YieldsList-from_slice_split}
-use Rattle.svm_model.specs.Script.{is_blank}
+use Rattle.svm_model.specs.Formats.ScriptWords.{is_blank}
 use Rattle.script_format.proofs.words.pieces_in.Goals as goal
 
 pub returns : goal.returns

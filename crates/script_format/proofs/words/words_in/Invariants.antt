@@ -1,6 +1,6 @@
 use Rattle.std.proofs.Common.{◌≡◌, ◌++◌, drop, map}
 use Rattle.std.specs.List.{filter}
-use Rattle.svm_model.specs.Script.{is_some_word}
+use Rattle.svm_model.specs.Formats.ScriptWords.{is_some_word}
 use Rattle.script_format.proofs.words.words_in.Given as goal
 
 -- the words so far, and those of the pieces that are left

@@ -1,6 +1,6 @@
 -- The four texts are the report's lines.
 use Rattle.std.proofs.Common.{◌∙◌, ap}
-use Rattle.svm_model.specs.Text.{events_line}
+use Rattle.svm_model.specs.Formats.Text.{events_line}
 use Rattle.svm_run.proofs.Reports.{pieces, report_of_parts}
 use Rattle.svm_run.proofs.report.report.Goals as goal
 

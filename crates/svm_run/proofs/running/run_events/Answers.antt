@@ -1,6 +1,6 @@
 -- One more event leads on from those so far.
 use Rattle.std.proofs.Common.{◌∙◌, ◌+◌, ℕ, sym, ap, arith}
-use Rattle.svm_model.specs.Script.{events_of}
+use Rattle.svm_model.specs.Formats.Script.{events_of}
 use Rattle.port_bus.proofs.Counts.{none_fell-then}
 use Rattle.svm_run.proofs.Events.{led_next, led_same}
 use Rattle.svm_run.proofs.running.run_events.Goals as goal

@@ -1,7 +1,8 @@
 use Rattle.std.proofs.Common.{◌≡◌, ◌≤◌, ◌+◌, ◌*◌, false, take, map}
 use Rattle.std.specs.Option.{option_map}
-use Rattle.svm_model.specs.Script.{events_of}
-use Rattle.svm_model.specs.World.{plain_run, world_shape}
+use Rattle.svm_model.specs.Formats.Script.{events_of}
+use Rattle.svm_model.specs.Machine.Runs.{plain_run}
+use Rattle.svm_model.specs.Machine.Shapes.{world_shape}
 use Rattle.port_bus.specs.Causes.{NoneFell}
 use Rattle.svm_run.proofs.running.run_events.Given as goal
 

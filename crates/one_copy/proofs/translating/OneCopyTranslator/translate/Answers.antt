@@ -1,5 +1,5 @@
 use Rattle.std.proofs.Common.{refl, ◌∙◌, sym}
-use Rattle.svm_model.specs.Bytes.{guest_of}
+use Rattle.svm_model.specs.Memory.Bytes.{guest_of}
 use Rattle.one_copy.proofs.RecallLemmas.{hit}
 use Rattle.one_copy.proofs.translating.OneCopyTranslator.translate.Goals as goal
 

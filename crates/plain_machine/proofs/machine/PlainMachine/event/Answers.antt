@@ -1,6 +1,7 @@
 -- The machine's world is one of one guest, one vcpu and one processor, and keeps the ends that were given.
 use Rattle.std.proofs.Common.{◌∙◌, ap, sym, subst}
-use Rattle.svm_model.specs.World.{World, EndsStay}
+use Rattle.svm_model.specs.Machine.Runs.{EndsStay}
+use Rattle.svm_model.specs.Machine.World.{World}
 use Rattle.svm_model.proofs.EndLemmas.{reached-ends_stay}
 use Rattle.plain_machine.specs.Single.{Machine}
 use Rattle.plain_machine.proofs.WellFormed.{single-well_formed}

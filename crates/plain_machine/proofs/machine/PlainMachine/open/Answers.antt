@@ -1,6 +1,7 @@
 use Rattle.std.proofs.Common.{◌∙◌, ap, slice_index_or}
-use Rattle.svm_model.specs.Image.{ImageGuest}
-use Rattle.svm_model.specs.World.{world_of, world_shape, is_offered}
+use Rattle.svm_model.specs.Formats.Image.{ImageGuest}
+use Rattle.svm_model.specs.Machine.Shapes.{world_shape, is_offered}
+use Rattle.svm_model.specs.Machine.World.{world_of}
 use Rattle.svm_model.proofs.WorldLemmas.{world_shape-world_of}
 use Rattle.plain_machine.proofs.Opening.{opened}
 use Rattle.plain_machine.proofs.WellFormed.{single-well_formed, none_placed}

@@ -1,7 +1,7 @@
 use Rattle.std.proofs.Common.{◌≡◌, ◌∙◌, ◌≤◌, ◌↔◌, List, ap, sym, subst}
 use Rattle.std.specs.List.{flat_map, slice_get}
 use Rattle.std.specs.Option.{IsNone}
-use Rattle.svm_model.specs.Script.{Script, events_of, events_of_line}
+use Rattle.svm_model.specs.Formats.Script.{Script, events_of, events_of_line}
 use Rattle.svm_model.specs.declared.formats.ScriptLine.{ScriptLine}
 use Rattle.script_format.specs.Order.{AreInOrder}
 use Rattle.script_format.proofs.Order.{count, count_is, in_order, named}

@@ -1,0 +1,10 @@
+-- Images, scripts, and printed text.
+pub mod Image
+pub mod ImageBytes
+pub mod ImageFields
+pub mod ImageVcpus
+pub mod LawfulImages
+pub mod Script
+pub mod ScriptLines
+pub mod ScriptWords
+pub mod Text

@@ -1,0 +1,123 @@
+-- The lines of a script that are not skipped. Each gives its event, the number of the first one, and how often it comes.
+use Rattle.std.specs.Prelude.{ℕ, ◌+◌, ◌^◌, ◌&&◌, nat_lt, nat_le, List, [], ◌∷◌, Bool, false, if◌then◌else◌, Option, Some, None, Result, Ok, Err, codes, slice_get}
+use Rattle.std.specs.List.{list_all}
+use Rattle.std.specs.Str.{bytes_eq}
+use Rattle.svm_model.specs.Machine.Bus.{device_count}
+use Rattle.svm_model.specs.Machine.Shapes.{Shape}
+use Rattle.svm_model.specs.declared.formats.ScriptLine.{ScriptLine}
+use Rattle.svm_model.specs.declared.formats.ScriptReason.{ScriptReason}
+use Rattle.svm_model.specs.declared.formats.ScriptReason.TheVariants.{Bytes, Word, Words, Cpu, Guest, Vcpu, Device, Count, Value, Events}
+use Rattle.svm_model.specs.declared.names.Event.{Event}
+use Rattle.svm_model.specs.declared.names.Event.TheVariants.{Place, Run, Feed, Unplug}
+use Rattle.svm_model.specs.Formats.ScriptWords.{◌>>=◌, words_of, is_text, is_comment, number_in}
+
+-- Lines that are not skipped. Each gives the event, with the number of its first one, and how often it comes.
+
+-- a value passes the test, or is the reason
+abbrev pub judged : {A : Type 0} → ScriptReason → Bool → A → Result A ScriptReason
+judged reason good x = if good then Ok x else Err reason
+
+-- the vcpus of a guest
+abbrev pub vcpus_in : Option ℕ → Result ℕ ScriptReason
+vcpus_in None = Err Guest
+vcpus_in (Some count) = Ok count
+
+abbrev pub line_of : Event → ℕ → ℕ → ScriptLine
+line_of event first times = record { event = event; first = first; times = times; each = false }
+
+abbrev pub place_values : Shape → ℕ → ℕ → ℕ → ℕ → Result ScriptLine ScriptReason
+place_values shape first cpu guest vcpu = do
+  there ← judged Cpu (nat_lt cpu shape.cpus) cpu
+  count ← vcpus_in (slice_get shape.vcpus guest)
+  index ← judged Vcpu (nat_lt vcpu count) vcpu
+  Ok (line_of (Place (record { 0 = there }) (record { guest = record { 0 = guest }; index = index })) first 1)
+
+-- place CPU GUEST VCPU
+unfoldable pub place_line : Shape → ℕ → List (List ℕ) → Result ScriptLine ScriptReason
+place_line shape first [] = Err Words
+place_line shape first (a ∷ []) = Err Words
+place_line shape first (a ∷ b ∷ []) = Err Words
+place_line shape first (cpu ∷ guest ∷ vcpu ∷ []) = do
+  c ← number_in cpu
+  g ← number_in guest
+  v ← number_in vcpu
+  place_values shape first c g v
+place_line shape first (a ∷ b ∷ c ∷ d ∷ words) = Err Words
+
+-- the most events of a line, and of a script
+abbrev pub event_limit : ℕ
+event_limit = 1048576
+
+abbrev pub run_values : Shape → ℕ → ℕ → ℕ → Result ScriptLine ScriptReason
+run_values shape first cpu count = do
+  there ← judged Cpu (nat_lt cpu shape.cpus) cpu
+  times ← judged Count (nat_le 1 count && nat_le count event_limit) count
+  Ok (line_of (Run (record { 0 = there })) first times)
+
+-- run CPU COUNT
+unfoldable pub run_line : Shape → ℕ → List (List ℕ) → Result ScriptLine ScriptReason
+run_line shape first [] = Err Words
+run_line shape first (a ∷ []) = Err Words
+run_line shape first (cpu ∷ count ∷ []) = do
+  c ← number_in cpu
+  n ← number_in count
+  run_values shape first c n
+run_line shape first (a ∷ b ∷ c ∷ words) = Err Words
+
+abbrev pub feed_values : ℕ → ℕ → ℕ → Result ScriptLine ScriptReason
+feed_values first device value = do
+  place ← judged Device (nat_lt device device_count) device
+  fed ← judged Value (nat_lt value (2 ^ 32)) value
+  Ok (line_of (Feed place fed) first 1)
+
+-- feed DEVICE VALUE
+unfoldable pub feed_line : ℕ → List (List ℕ) → Result ScriptLine ScriptReason
+feed_line first [] = Err Words
+feed_line first (a ∷ []) = Err Words
+feed_line first (device ∷ value ∷ []) = do
+  d ← number_in device
+  v ← number_in value
+  feed_values first d v
+feed_line first (a ∷ b ∷ c ∷ words) = Err Words
+
+abbrev pub unplug_values : ℕ → ℕ → Result ScriptLine ScriptReason
+unplug_values first device = do
+  place ← judged Device (nat_lt device device_count) device
+  Ok (line_of (Unplug place) first 1)
+
+-- unplug DEVICE
+unfoldable pub unplug_line : ℕ → List (List ℕ) → Result ScriptLine ScriptReason
+unplug_line first [] = Err Words
+unplug_line first (device ∷ []) = do
+  d ← number_in device
+  unplug_values first d
+unplug_line first (a ∷ b ∷ words) = Err Words
+
+-- what the words behind a first word say
+abbrev pub command : Shape → ℕ → List ℕ → List (List ℕ) → Result ScriptLine ScriptReason
+command shape first word words =
+    if bytes_eq word (codes "place") then place_line shape first words
+    else if bytes_eq word (codes "run") then run_line shape first words
+    else if bytes_eq word (codes "feed") then feed_line first words
+    else if bytes_eq word (codes "unplug") then unplug_line first words
+    else Err Word
+
+-- no line goes past the most events
+abbrev pub within_limit : ScriptLine → Result ScriptLine ScriptReason
+within_limit line = judged Events (nat_le (line.first + line.times) event_limit) line
+
+-- the bytes of the line are looked at first, then the words, and the events last
+abbrev pub said_by : Shape → ℕ → List ℕ → List ℕ → List (List ℕ) → Result (Option ScriptLine) ScriptReason
+said_by shape first line word words = do
+  text ← judged Bytes (list_all is_text line) line
+  spoken ← command shape first word words
+  kept ← within_limit spoken
+  Ok (Some kept)
+
+abbrev pub said_in : Shape → ℕ → List ℕ → List (List ℕ) → Result (Option ScriptLine) ScriptReason
+said_in shape first line [] = Ok None
+said_in shape first line (word ∷ words) = if is_comment word then Ok None else said_by shape first line word words
+
+-- what a line says: nothing where it has no word or is a comment
+unfoldable pub said_of : Shape → ℕ → List ℕ → Result (Option ScriptLine) ScriptReason
+said_of shape first line = said_in shape first line (words_of line)

@@ -1,0 +1,69 @@
+-- What events name: processors and vcpus that are there.
+use Rattle.std.specs.Prelude.{◌≡◌, ℕ, ◌%◌, ◌&&◌, ◌==◌, List, [], ◌∷◌, Bool, true, false, Option, Some, length, map, slice_get, ◌<◌}
+use Rattle.std.specs.List.{All}
+use Rattle.svm_model.specs.Machine.Bus.{device_count}
+use Rattle.svm_model.specs.Machine.Guest.{Guest}
+use Rattle.svm_model.specs.Formats.Image.{Image, ImageGuest}
+use Rattle.svm_model.specs.declared.names.Event.{Event}
+use Rattle.svm_model.specs.declared.names.Event.TheVariants.{Place, Run, Feed, Irq, Nmi, Unplug, Dump}
+use Rattle.svm_model.specs.declared.names.VcpuId.{VcpuId}
+use Rattle.svm_model.specs.declared.register_file.Registers.{Registers}
+use Rattle.svm_model.specs.Machine.World.{World}
+
+-- What is named in events.
+
+-- the number of processors, and that of the vcpus of each guest
+pub record Shape : Type 0 where
+  pub cpus : ℕ
+  pub vcpus : List ℕ
+
+abbrev pub image_shape : Image → Shape
+image_shape image = record { cpus = image.cpus; vcpus = map (λ guest. length guest.vcpus) image.guests }
+
+abbrev pub world_shape : World → Shape
+world_shape w = record { cpus = w.cpus; vcpus = map (λ guest. length guest.vcpus) w.guests }
+
+abbrev pub IsVcpu : Shape → VcpuId → Type 0
+IsVcpu shape id = (count : ℕ) × (slice_get shape.vcpus id.guest.0 ≡ Some count) × (id.index < count)
+
+-- an event names processors, vcpus and devices that are there
+abbrev pub IsNamed : Shape → Event → Type 0
+IsNamed shape (Place cpu id) = (cpu.0 < shape.cpus) × IsVcpu shape id
+IsNamed shape (Run cpu) = cpu.0 < shape.cpus
+IsNamed shape (Feed device value) = device < device_count
+IsNamed shape (Irq id vector) = IsVcpu shape id
+IsNamed shape (Nmi id) = IsVcpu shape id
+IsNamed shape (Unplug device) = device < device_count
+IsNamed shape (Dump guest address length) = (count : ℕ) × (slice_get shape.vcpus guest.0 ≡ Some count)
+
+-- What holds of each world.
+
+-- no vcpu stands on two processors
+abbrev pub IsOneToOne : List (Option VcpuId) → Type 0
+IsOneToOne placing =
+    (cpu other : ℕ) (id : VcpuId) → slice_get placing cpu ≡ Some (Some id) → slice_get placing other ≡ Some (Some id) → cpu ≡ other
+
+-- each processor has a place, each placed vcpu is there and stands on one processor alone, and memory has whole pages
+pub record IsWellFormed (w : World) : Type 0 where
+  pub processors : length w.placing ≡ w.cpus
+  pub there : (cpu : ℕ) (id : VcpuId) → slice_get w.placing cpu ≡ Some (Some id) → IsVcpu (world_shape w) id
+  pub one_to_one : IsOneToOne w.placing
+  pub pages : All (λ (guest : Guest). length guest.memory % 4096 ≡ 0) w.guests
+
+-- What the machine runs: one processor, and one guest with one vcpu.
+abbrev pub single : Shape
+single = record { cpus = 1; vcpus = 1 ∷ [] }
+
+-- the image has one processor, and one guest with one vcpu
+abbrev pub is_offered_vcpu : List Registers → Bool
+is_offered_vcpu [] = false
+is_offered_vcpu (registers ∷ []) = true
+is_offered_vcpu (a ∷ b ∷ vcpus) = false
+
+abbrev pub is_offered_guest : List ImageGuest → Bool
+is_offered_guest [] = false
+is_offered_guest (guest ∷ []) = is_offered_vcpu guest.vcpus
+is_offered_guest (a ∷ b ∷ guests) = false
+
+abbrev pub is_offered : Image → Bool
+is_offered image = (image.cpus == 1) && is_offered_guest image.guests

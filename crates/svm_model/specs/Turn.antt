@@ -1,0 +1,19 @@
+-- The turn of a vcpu as a course, and what its events come to.
+pub mod Accesses
+pub mod Along
+pub mod Control
+pub mod Course
+pub mod Delivery
+pub mod Descriptors
+pub mod DoubleFaults
+pub mod Errand
+pub mod Faults
+pub mod Histories
+pub mod Instruction
+pub mod Outsides
+pub mod Paused
+pub mod Play
+pub mod Return
+pub mod SystemCourses
+pub mod UserCourses
+pub mod Work
