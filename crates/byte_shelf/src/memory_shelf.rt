@@ -7,8 +7,8 @@ ghost use Rattle.fault_counts.specs.Numbered.{Fails, after_call};
 ghost use Rattle.byte_shelf.specs.Memory.{files_of, left_of, opened_of};
 
 use crate::answers::{Failed, Opened};
-use fault_counts::Calls;
 use crate::shelf::Shelf;
+use fault_counts::Calls;
 use std::marker::Model;
 
 /// Names and their files. A clause sees these, whether a file is open, what is left of it, the count of faults, and which

@@ -4,8 +4,8 @@ ghost use Rattle.fault_counts.specs.Causes.{Rose};
 ghost use Rattle.fault_counts.specs.Numbered.{Fails, after_call};
 
 use crate::answers::SinkRefusal;
-use fault_counts::Calls;
 use crate::sink::Sink;
+use fault_counts::Calls;
 use std::alloc::Global;
 use std::marker::Model;
 

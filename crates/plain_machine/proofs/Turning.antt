@@ -131,8 +131,8 @@ turn-taken refused facts bus tpr memory vcpu space new board after stepped same 
       };
       outside = ap (λ (v : Vcpu). v.inside) vcpu_is ∙ out;
       kept = λ write denied.
-        ap (λ (b : Board). b.bus) board_is
-        ∙ turn-denied way (board_of bus (idle_apic tpr)) memory facts vcpu None write e refl (sym (ap (λ (b : Board). b.denied) board_is) ∙ denied);
+          ap (λ (b : Board). b.bus) board_is
+          ∙ turn-denied way (board_of bus (idle_apic tpr)) memory facts vcpu None write e refl (sym (ap (λ (b : Board). b.denied) board_is) ∙ denied);
     }
 
 pub needs_nothing : (kept : Bool) → Needs false kept

@@ -149,8 +149,7 @@ impl PlainMachine {
     #[tactic(auto, using(crate::proofs::Idle::idle))]
     fn ring_timers(&mut self)
         ensures { self.new ≡ record { world = with_timers self.old.world; stopped = self.old.stopped } }
-    {
-    }
+    {}
 
     /// Places the vcpu on the processor.
     #[tactic(auto, using(crate::proofs::Singles::singles))]

@@ -1,14 +1,14 @@
 -- In L1 a turn reads or writes a port at most once, last of all, and its vcpu is inside no VMCB behind it.
-use Rattle.std.proofs.Common.{◌≡◌, ◌∙◌, ℕ, suc, zero, Bool, true, false, List, [], ◌∷◌, Option, Some, None, Result, Ok, Err, length, ap, sym, refl}
-use Rattle.std.specs.Prelude.{if◌then◌else◌, ◌+◌, not, nat_le, take, drop, slice_index, slice_set, ◌*◌, ◌-◌, ◌%◌, ◌^◌}
-use Rattle.svm_model.specs.Turn.Accesses.{Piece, Words, accessed, accesses, data_part, in_next_page, is_in_one_page, joined, left_in_page, no_values, number_of, on_part, piece_read, place_of, planned_accesses, reads, refusal_of, results_written, then_on, then_piece, with_access, with_part, with_piece, with_place, with_result, with_two_pieces, with_written, word_in, writes}
+use Rattle.std.proofs.Common.{◌≡◌, ℕ, suc, zero, Bool, true, false, List, [], ◌∷◌, Option, Some, None, Result, Ok, Err, length, ap, refl}
+use Rattle.std.specs.Prelude.{if◌then◌else◌, ◌+◌, not, nat_le, take, drop, slice_index, slice_set, ◌-◌, ◌%◌, ◌^◌}
+use Rattle.svm_model.specs.Turn.Accesses.{Piece, Words, accessed, accesses, in_next_page, is_in_one_page, joined, left_in_page, no_values, number_of, on_part, piece_read, place_of, planned_accesses, reads, results_written, then_on, then_piece, with_access, with_part, with_piece, with_place, with_result, with_two_pieces, with_written, writes}
 use Rattle.svm_model.specs.Turn.Along.{along, committed, done_of, held_after, held_after_word, released, word_of}
 use Rattle.svm_model.specs.Machine.Apic.{taken}
 use Rattle.svm_model.specs.Machine.ApicRegisters.{register_read, register_written}
 use Rattle.svm_model.specs.Machine.Bus.{device_of, value_read, bus_after_read}
 use Rattle.svm_model.specs.Memory.Bytes.{bytes_at, bytes_of_result, put_at}
-use Rattle.svm_model.specs.Turn.Control.{Control, turn_by, with_live_irq}
-use Rattle.svm_model.specs.Turn.Course.{Board, Course, Done, Release, Translate, Read, Write, Look, Drop, In, Out, ApicRead, ApicWrite, Take, Priority, Turned, Way}
+use Rattle.svm_model.specs.Turn.Control.{turn_by, with_live_irq}
+use Rattle.svm_model.specs.Turn.Course.{Board, Course, Done, Release, Translate, Read, Write, Look, Drop, In, Out, ApicRead, ApicWrite, Take, Priority, Way}
 use Rattle.svm_model.specs.Turn.Play.{access_of, board_after, called, frames_after, heard, numbered, place_in, play, read_answer, prioritized, refuses, translated, with_apic, with_bus, with_out, written_answer}
 use Rattle.svm_model.specs.Turn.Delivery.{delivery}
 use Rattle.svm_model.specs.Turn.DoubleFaults.{combined}
@@ -16,8 +16,8 @@ use Rattle.svm_model.specs.Turn.Errand.{Errand, Over, Word, Hold, Commit}
 use Rattle.svm_model.specs.Turn.Faults.{Came, again, came, delivered, delivering, ends, fault, finished, leaves, on_combined, on_delivery, without_shadow}
 use Rattle.svm_model.specs.Instructions.Guards.{refusal}
 use Rattle.svm_model.specs.Turn.Instruction.{done_row, fetched, instruction, next_page, on_all, on_back, on_first, on_front, read_at}
-use Rattle.svm_model.specs.Turn.SystemCourses.{on_read, on_system, system_accesses, system_row, unless_refused, unlocked}
-use Rattle.svm_model.specs.Turn.UserCourses.{after_row, apic_row, applied_to, apic_end, at_register, is_reading, on_applied, on_piece, on_place, on_register_read, on_register_written, on_values, plain_row, raised, register_applied, register_written as register_written_by, register_read as register_read_by, user_accesses, user_row, may_reach}
+use Rattle.svm_model.specs.Turn.SystemCourses.{on_read, on_system, system_row, unless_refused, unlocked}
+use Rattle.svm_model.specs.Turn.UserCourses.{after_row, apic_row, applied_to, at_register, is_reading, on_applied, on_place, on_register_read, on_register_written, on_values, plain_row, raised, register_applied, register_written as register_written_by, register_read as register_read_by, user_accesses, user_row, may_reach}
 use Rattle.svm_model.specs.Svm.Intercepts.{nested_exit}
 use Rattle.svm_model.specs.Instructions.Locking.{lock_is_undefined}
 use Rattle.svm_model.specs.Memory.NestedPaging.{walked_over}
@@ -25,7 +25,6 @@ use Rattle.svm_model.specs.Instructions.Exceptions.{general_protection, invalid_
 use Rattle.svm_model.specs.Instructions.Operands.{State, rax, rcx, whole_register}
 use Rattle.svm_model.specs.Memory.RegisterFile.{is_canonical}
 use Rattle.svm_model.specs.Turn.Outsides.{Doing, back, behind, going, on_return, with_flush, with_gif, with_interrupt, with_outside, with_output, with_page_dropped, with_priority, with_return, with_svm, went, where_done}
-use Rattle.svm_model.specs.Instructions.Planning.{planned}
 use Rattle.svm_model.specs.Turn.Return.{coming_back}
 use Rattle.svm_model.specs.Instructions.Rows.{decoded}
 use Rattle.svm_model.specs.Instructions.SystemState.{Systemic}
@@ -33,7 +32,6 @@ use Rattle.svm_model.specs.Instructions.UserRows.{is_user_row}
 use Rattle.svm_model.specs.Turn.Work.{course_of, done, inject, next_work, take_interrupt, turn_course}
 use Rattle.svm_model.specs.declared.vcpus.Inside.{Inside}
 use Rattle.svm_model.specs.declared.names.End.TheVariants as end
-use Rattle.svm_model.specs.declared.page_tables.Nested.{Nested}
 use Rattle.svm_model.specs.declared.ports.PortWrite.{PortWrite}
 use Rattle.svm_model.specs.declared.register_file.Registers.{Registers}
 use Rattle.svm_model.specs.declared.rows.Decoded.{Decoded}

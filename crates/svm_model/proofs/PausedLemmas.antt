@@ -1,14 +1,14 @@
 -- What is left of a turn leads where the whole leads.
 use Rattle.std.proofs.Common.{◌≡◌, ◌∙◌, ℕ, suc, zero, List, [], ◌∷◌, length, ap, sym, refl, arith}
-use Rattle.std.specs.Prelude.{◌++◌, not, take, drop, slice_index}
+use Rattle.std.specs.Prelude.{not, take, drop, slice_index}
 use Rattle.svm_model.specs.Machine.Apic.{taken}
 use Rattle.svm_model.specs.Machine.ApicRegisters.{register_read, register_written}
 use Rattle.svm_model.specs.Machine.Bus.{device_of, value_read, bus_after_read}
 use Rattle.svm_model.specs.Memory.Bytes.{bytes_at, put_at}
-use Rattle.svm_model.specs.Turn.Course.{Board, Course, Done, Release, Translate, Read, Write, Look, Drop, In, Out, ApicRead, ApicWrite, Take, Priority, Flushed, Turned, Way, after, told_of}
+use Rattle.svm_model.specs.Turn.Course.{Board, Course, Done, Release, Translate, Read, Write, Look, Drop, In, Out, ApicRead, ApicWrite, Take, Priority, Flushed, Way, after, told_of}
 use Rattle.svm_model.specs.Turn.Play.{access_of, board_after, called, frames_after, heard, numbered, place_in, play, read_answer, prioritized, refuses, translated, with_apic, with_bus, with_out, written_answer}
 use Rattle.svm_model.specs.Memory.NestedPaging.{walked_over}
-use Rattle.svm_model.specs.Turn.Paused.{Answer, Found, Bytes, Looked, Input, Granted, Register, Cut, cut_after, left, taken_up}
+use Rattle.svm_model.specs.Turn.Paused.{Answer, Found, Bytes, Looked, Input, Granted, Register, cut_after, left, taken_up}
 
 pub taken_up-whole : (n : ℕ) (way : Way) (board : Board) (memory frames : List ℕ) (course : Course) → play way board memory frames course ≡ taken_up way (cut_after n way board memory frames course)
 taken_up-whole zero way board memory frames course = refl

@@ -55,7 +55,7 @@ pub ends-finished : (m : Meaning) (line : List ℕ) (w v : World) (bus now : Bus
     Receives m.printed (outcome_after (led v now)).text line old new r → EndsRun m line (job image script) bus now old new r
 ends-finished m line w v bus now image script old new r e f g h k p =
     let all : (outcome_after (led v now)).text ≡ text_until (length (events_of script)) bus (job image script) =
-        ap (λ o. o.text) (led-completed w v bus now image script e f g) ∙ sym (text-all bus (job image script)) in
+    ap (λ o. o.text) (led-completed w v bus now image script e f g) ∙ sym (text-all bus (job image script)) in
     record {
       count = length (events_of script);
       reached = h (length (events_of script));
@@ -72,7 +72,7 @@ ends-refused code blame line w bus now image script old new r e cut h =
     let j = job image script in
     let there : now ≡ (led_until cut.count bus j).bus = bus-some w bus now image script cut.count e cut.bus in
     let nothing : old ≡ appended old (text_until cut.count bus j) =
-        sym (ap (appended old) (text-before cut.count bus j cut.short) ∙ appended-nothing old) in
+    sym (ap (appended old) (text-before cut.count bus j cut.short) ∙ appended-nothing old) in
     record {
       count = cut.count;
       reached = cut.short;

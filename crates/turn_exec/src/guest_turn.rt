@@ -109,7 +109,8 @@ fn numbered(number: u8, found: Translated) -> Translation
     }
 }
 
-impl<'t, 'm, 'b, 'a, 's, T: Translator, B: Ports, A: Apics, L: Ledger> Reach for GuestTurn<'t, 'm, 'b, 'a, 's, T, B, A, L> {
+impl<'t, 'm, 'b, 'a, 's, T: Translator, B: Ports, A: Apics, L: Ledger> Reach
+    for GuestTurn<'t, 'm, 'b, 'a, 's, T, B, A, L> {
     ghost plays = { λ m course last vcpu stepped.
         SameNames m.translator.ghost_name last.translator.ghost_name m.memory.ghost_name last.memory.ghost_name m.bus.ghost_name last.bus.ghost_name m.apics.ghost_name last.apics.ghost_name m.steps.ghost_name last.steps.ghost_name
         × (((last.steps.now + T.cost * m.spent ≤ m.steps.now + T.cost * last.spent) × (m.steps.now ≤ last.steps.now))

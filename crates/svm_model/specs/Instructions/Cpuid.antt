@@ -1,5 +1,5 @@
 -- What CPUID tells (volume 3, 'CPUID').
-use Rattle.std.specs.Prelude.{ℕ, ◌*◌, ◌%◌, ◌^◌, List, [], ◌∷◌, ◌==◌, if◌then◌else◌}
+use Rattle.std.specs.Prelude.{ℕ, ◌*◌, ◌^◌, List, [], ◌∷◌, ◌==◌, if◌then◌else◌}
 use Rattle.svm_model.specs.Memory.Bits.{bit}
 use Rattle.svm_model.specs.declared.turns.Facts.{Facts}
 

@@ -1,11 +1,9 @@
 -- The model-specific registers that are offered (volume 2, 'Cross-Listing of MSRs'). Any other is #GP(0).
-use Rattle.std.specs.Prelude.{ℕ, ◌+◌, ◌-◌, ◌/◌, ◌%◌, ◌^◌, nat_le, List, [], ◌∷◌, Bool, true, false, ◌==◌, ◌&&◌, ◌||◌, not, if◌then◌else◌, Option, Some, None, Result, Ok, Err}
+use Rattle.std.specs.Prelude.{ℕ, ◌+◌, ◌-◌, ◌%◌, ◌^◌, nat_le, List, [], ◌∷◌, Bool, ◌==◌, ◌&&◌, ◌||◌, not, if◌then◌else◌, Option, Some, None}
 use Rattle.svm_model.specs.Memory.Bits.{bit, bits_from, has_some, with_bits}
-use Rattle.svm_model.specs.Instructions.Exceptions.{general_protection}
 use Rattle.svm_model.specs.Instructions.Guards.{is_page}
 use Rattle.svm_model.specs.Memory.RegisterFile.{is_canonical}
 use Rattle.svm_model.specs.declared.register_file.Registers.{Registers}
-use Rattle.svm_model.specs.declared.traps.Trap.{Trap}
 use Rattle.svm_model.specs.declared.turns.Facts.{Facts}
 
 pub data Msr : Type 0 where

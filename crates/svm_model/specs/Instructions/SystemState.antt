@@ -2,7 +2,7 @@
 -- (volume 3, 'System Instruction Reference').
 use Rattle.std.specs.Prelude.{ℕ, ◌+◌, ◌-◌, ◌*◌, ◌%◌, ◌^◌, List, false, if◌then◌else◌, Result, Ok, slice_index}
 use Rattle.svm_model.specs.Memory.Bits.{bit, with_bits, without_bits}
-use Rattle.svm_model.specs.Instructions.Operands.{State, state, rax, rdx, rsp, whole_register, with_register, with_result}
+use Rattle.svm_model.specs.Instructions.Operands.{State, rax, rdx, rsp, whole_register, with_register, with_result}
 use Rattle.svm_model.specs.Turn.Return.{popped_flags, steps_singly}
 use Rattle.svm_model.specs.Instructions.Sources.{names_dx}
 use Rattle.svm_model.specs.declared.names.End.TheVariants.{Mode}

@@ -1,5 +1,5 @@
 -- What is told of a turn beyond its course, and #VMEXIT.
-use Rattle.std.specs.Prelude.{ℕ, ◌+◌, List, [], ◌++◌, Bool, if◌then◌else◌, Option, Some, None}
+use Rattle.std.specs.Prelude.{ℕ, List, [], ◌++◌, Bool, if◌then◌else◌, Option, Some, None}
 use Rattle.svm_model.specs.Turn.Control.{Control, asks}
 use Rattle.svm_model.specs.Turn.Course.{Board, Told, Left, Turned, Way, after}
 use Rattle.svm_model.specs.Turn.Play.{called, refuses}

@@ -1,6 +1,5 @@
 -- A pass through the outer tables (volume 2, 'Nested Paging').
 use Rattle.std.specs.Prelude.{ℕ, ◌+◌, ◌*◌, ◌^◌, List, [], ◌∷◌, ◌++◌, Bool, true, false}
-use Rattle.svm_model.specs.Memory.PageEntries.{dirty}
 use Rattle.svm_model.specs.Memory.PageTables.{walked}
 use Rattle.svm_model.specs.declared.names.Access.{Access}
 use Rattle.svm_model.specs.declared.names.Kind.{Kind}

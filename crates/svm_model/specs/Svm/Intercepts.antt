@@ -1,7 +1,7 @@
 -- Which intercepts of a VMCB make a guest exit (volume 2, 'Instruction Intercepts', 'Exception Intercepts', 'Interrupt
 -- Intercepts', 'I/O Intercepts', 'MSR Intercepts', 'SVM Intercept Exit Codes').
-use Rattle.std.specs.Prelude.{ℕ, ◌+◌, ◌-◌, ◌*◌, ◌/◌, ◌%◌, ◌^◌, nat_le, nat_lt, List, Bool, true, false, ◌==◌, ◌&&◌, ◌||◌, not, if◌then◌else◌, Option, Some, None}
-use Rattle.svm_model.specs.Memory.Bits.{bit, bits_from, bits_where}
+use Rattle.std.specs.Prelude.{ℕ, ◌+◌, ◌-◌, ◌*◌, ◌/◌, ◌%◌, ◌^◌, nat_le, nat_lt, List, Bool, true, false, ◌==◌, ◌&&◌, not, if◌then◌else◌, Option, Some, None}
+use Rattle.svm_model.specs.Memory.Bits.{bits_from, bits_where}
 use Rattle.svm_model.specs.Memory.Bytes.{value_of_bytes}
 use Rattle.svm_model.specs.Instructions.Guards.{guard_of, writes_special}
 use Rattle.svm_model.specs.declared.guards.Intercept.{Intercept}

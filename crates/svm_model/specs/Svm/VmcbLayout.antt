@@ -1,6 +1,6 @@
 -- The layout of the virtual machine control block: where its fields lie, and which groups they are in (volume 2, 'VMCB
 -- Layout', 'VMCB Clean Bits').
-use Rattle.std.specs.Prelude.{ℕ, ◌+◌, ◌-◌, ◌==◌, List, [], ◌∷◌, ◌++◌, if◌then◌else◌, slice_index_or}
+use Rattle.std.specs.Prelude.{ℕ, ◌-◌, ◌==◌, List, [], ◌∷◌, ◌++◌, if◌then◌else◌, slice_index_or}
 use Rattle.svm_model.specs.declared.vmcbs.Field.{Field}
 use Rattle.svm_model.specs.declared.vmcbs.Field.TheVariants as f
 use Rattle.svm_model.specs.declared.vmcbs.FieldPlace.{FieldPlace}

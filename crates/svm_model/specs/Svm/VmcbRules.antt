@@ -7,8 +7,6 @@ use Rattle.svm_model.specs.declared.traps.Cause.TheVariants as cause
 use Rattle.svm_model.specs.declared.traps.Injection.{Injection}
 use Rattle.svm_model.specs.declared.traps.Injection.TheVariants as injection
 use Rattle.svm_model.specs.declared.traps.Trap.{Trap}
-use Rattle.svm_model.specs.declared.vmcbs.Checked.{Checked}
-use Rattle.svm_model.specs.declared.vmcbs.Checked.TheVariants.{Legal, Illegal}
 use Rattle.svm_model.specs.declared.vmcbs.Field.{Field}
 use Rattle.svm_model.specs.declared.vmcbs.Field.TheVariants as f
 use Rattle.svm_model.specs.declared.vmcbs.Offered.{Offered}

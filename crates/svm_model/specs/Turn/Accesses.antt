@@ -1,7 +1,7 @@
 -- The course of accesses to linear memory: each is translated in order, part by part, and read where it is read; the writes
 -- come behind the last translation (volume 2, 'Page Translation and Protection'; volume 1, 'Memory Organization'). What comes
 -- next learns of a result: what was read, or why the turn stops.
-use Rattle.std.specs.Prelude.{ℕ, ◌+◌, ◌-◌, ◌%◌, ◌^◌, nat_le, List, [], ◌∷◌, ◌++◌, Bool, true, false, if◌then◌else◌, Some, Result, Ok, Err, length, take, drop, replicate, slice_index, slice_set}
+use Rattle.std.specs.Prelude.{ℕ, ◌+◌, ◌-◌, ◌%◌, ◌^◌, nat_le, List, [], ◌∷◌, ◌++◌, Bool, true, false, if◌then◌else◌, Result, Ok, Err, take, drop, replicate, slice_index, slice_set}
 use Rattle.svm_model.specs.Memory.Bytes.{value_of_bytes, bytes_of_result}
 use Rattle.svm_model.specs.Turn.Course.{Course, Release, Translate, Read, Write}
 use Rattle.svm_model.specs.Instructions.Exceptions.{page_fault, general_protection, stack_fault}

@@ -1,6 +1,6 @@
 -- What a turn is under: nothing in L1, or the VMCB that was entered. The same turn under another control is that of an L2, or
 -- that of a guest on a physical processor.
-use Rattle.std.specs.Prelude.{ℕ, ◌+◌, ◌*◌, ◌/◌, ◌%◌, ◌^◌, nat_lt, Bool, true, false, ◌&&◌, ◌||◌, not, if◌then◌else◌, Option, Some, None}
+use Rattle.std.specs.Prelude.{ℕ, ◌+◌, ◌*◌, ◌%◌, ◌^◌, nat_lt, Bool, true, false, ◌&&◌, ◌||◌, not, if◌then◌else◌, Option, Some, None}
 use Rattle.svm_model.specs.declared.vcpus.Vcpu.{Vcpu}
 use Rattle.svm_model.specs.Memory.RegisterFile.{paging_of, no_execute_enable}
 use Rattle.svm_model.specs.Memory.Bits.{bit, has}

@@ -1,6 +1,6 @@
 -- The course of an instruction under a control: it is fetched, decoded and done (volume 3, 'Instruction Encoding'; volume 2,
 -- 'SVM Intercepts').
-use Rattle.std.specs.Prelude.{ℕ, ◌+◌, ◌-◌, ◌%◌, min, List, ◌++◌, if◌then◌else◌, Option, Result, Ok, Err, length}
+use Rattle.std.specs.Prelude.{ℕ, ◌-◌, ◌%◌, min, List, ◌++◌, if◌then◌else◌, Option, Result, Ok, Err, length}
 use Rattle.svm_model.specs.Turn.Accesses.{with_part}
 use Rattle.svm_model.specs.Turn.Control.{Control}
 use Rattle.svm_model.specs.Turn.Course.{Course, Read}

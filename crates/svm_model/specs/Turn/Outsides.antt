@@ -1,14 +1,13 @@
 -- The course of what a system row asks for beyond the registers, under a control.
-use Rattle.std.specs.Prelude.{ℕ, ◌*◌, ◌%◌, ◌^◌, nat_le, List, [], Bool, true, false, if◌then◌else◌, Option, Some, None, Result, Ok, Err}
+use Rattle.std.specs.Prelude.{ℕ, ◌*◌, ◌%◌, ◌^◌, nat_le, List, [], Bool, true, false, if◌then◌else◌, Option, None, Result, Ok, Err}
 use Rattle.svm_model.specs.Turn.Accesses.{results_written}
 use Rattle.svm_model.specs.Turn.Along.{along}
 use Rattle.svm_model.specs.Turn.Control.{Control, asid_of, masks_interrupts, owns_gif, with_live_tpr, with_live_gif}
 use Rattle.svm_model.specs.Turn.Course.{Course, Drop, In, Out, Priority}
-use Rattle.svm_model.specs.Turn.Faults.{Came, came, ends, deliver, exit_under, unless_exit, without_shadow}
+use Rattle.svm_model.specs.Turn.Faults.{Came, came, deliver, exit_under, unless_exit}
 use Rattle.svm_model.specs.declared.vcpus.Vcpu.{Vcpu}
 use Rattle.svm_model.specs.Instructions.Operands.{rax, rcx, state, whole_register, with_register}
 use Rattle.svm_model.specs.Turn.Return.{coming_back}
-use Rattle.svm_model.specs.Instructions.SystemState.{Systemic}
 use Rattle.svm_model.specs.declared.exits.Exit.{Exit}
 use Rattle.svm_model.specs.declared.ports.PortWrite.{PortWrite}
 use Rattle.svm_model.specs.declared.register_file.Registers.{Registers}

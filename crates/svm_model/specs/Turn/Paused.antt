@@ -1,7 +1,7 @@
 -- A turn in its midst: the answers that its course has had, what is left of the course after them, and the turn as far as it
 -- went. A processor that is stopped by a missing translation, a port or a register of the APIC is taken up from here: by the
 -- answers alone, since a course sees words.
-use Rattle.std.specs.Prelude.{ℕ, suc, zero, List, [], ◌∷◌, ◌++◌, Bool, false, not, Result, Ok, Err, length, take, drop, slice_index}
+use Rattle.std.specs.Prelude.{ℕ, suc, zero, List, [], ◌∷◌, Bool, false, not, Result, Ok, length, take, drop, slice_index}
 use Rattle.svm_model.specs.Machine.Apic.{taken}
 use Rattle.svm_model.specs.Machine.ApicRegisters.{register_read, register_written}
 use Rattle.svm_model.specs.Machine.Bus.{device_of, value_read, bus_after_read}

@@ -1,5 +1,5 @@
 -- IRETQ (volume 3, 'IRETQ'; volume 2, 'Returning From Interrupt Procedures').
-use Rattle.std.specs.Prelude.{ℕ, ◌+◌, ◌-◌, ◌*◌, ◌%◌, ◌^◌, nat_le, nat_lt, Bool, true, false, ◌==◌, ◌&&◌, ◌||◌, not, if◌then◌else◌, Result, Ok, Err, slice_set}
+use Rattle.std.specs.Prelude.{ℕ, ◌%◌, ◌^◌, nat_lt, Bool, true, ◌==◌, ◌&&◌, ◌||◌, not, if◌then◌else◌, Ok, slice_set}
 use Rattle.svm_model.specs.Memory.Bits.{bit, bits_where, without_bits, replaced}
 use Rattle.svm_model.specs.Turn.Delivery.{in_table, is_past, null_stack, with_entry}
 use Rattle.svm_model.specs.Turn.Descriptors.{privilege, is_present, is_null, is_local, requested_privilege, without_privilege, descriptor_offset, is_code, is_writable_data, is_unoffered_code, descriptor_attributes, descriptor_base, descriptor_limit}
