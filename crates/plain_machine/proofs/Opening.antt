@@ -6,6 +6,7 @@ use Rattle.svm_model.specs.Formats.LawfulImages.{IsLawfulGuest}
 use Rattle.svm_model.specs.Machine.Shapes.{is_offered, is_offered_guest, is_offered_vcpu}
 use Rattle.svm_model.specs.Machine.World.{world_of, first_apics, first_guest, first_vcpu}
 use Rattle.svm_model.specs.declared.register_file.Registers.{Registers}
+use Rattle.svm_model.specs.declared.vcpus.Vcpu.{Vcpu}
 use Rattle.plain_machine.specs.Single.{single_world}
 
 offered_vcpu : (vcpus : List Registers) (r : Registers) → is_offered_vcpu vcpus ≡ true → r ≡ slice_index_or vcpus 0 r → vcpus ≡ r ∷ []
@@ -25,15 +26,15 @@ both false t e = absurd (cc)
 equal : (n : ℕ) → (n == 1) ≡ true → n ≡ 1
 equal n e = grind (arith, nat_tests)
 
-pub opened : (image : Image) (g : ImageGuest) (r : Registers) (memory : List ℕ) → is_offered image ≡ true → g ≡ slice_index_or image.guests 0 g → r ≡ slice_index_or g.vcpus 0 r →
-    memory ≡ (first_guest g).memory → single_world image.version image.features memory None (first_vcpu r) 0 None 0 ≡ world_of image
+pub opened : (image : Image) (g : ImageGuest) (r : Registers) (memory : List ℕ) (v : Vcpu) → v ≡ first_vcpu r → is_offered image ≡ true → g ≡ slice_index_or image.guests 0 g → r ≡ slice_index_or g.vcpus 0 r →
+    memory ≡ (first_guest g).memory → single_world image.version image.features memory None v 0 None 0 ≡ world_of image
 unfolding world_of first_apics
-opened image g r memory h e f m =
+opened image g r memory v started h e f m =
     let parts = both (image.cpus == 1) (is_offered_guest image.guests) h in
     let one : image.cpus ≡ 1 = equal image.cpus parts.0 in
     let guest = offered_guest image.guests g parts.1 e in
     let vcpu = offered_vcpu g.vcpus r guest.1 f in
-    rw (one, guest.0, vcpu, m) refl
+    rw (one, guest.0, vcpu, m, started) refl
 
 some_guests : (guests : List ImageGuest) → is_offered_guest guests ≡ true → 0 < length guests
 some_guests [] h = absurd (cc)

@@ -1,10 +1,8 @@
 -- Worlds of one guest, one vcpu and one processor: every name is the first.
-use Rattle.std.proofs.Common.{◌≡◌, ℕ, zero, suc, ◌<◌, [], ◌∷◌, Option, Some, None, refl, arith, map, slice_get, slice_set}
-use Rattle.svm_model.specs.Machine.Guest.{level_in}
+use Rattle.std.proofs.Common.{◌≡◌, ℕ, zero, suc, ◌<◌, [], ◌∷◌, Option, Some, refl, arith, map, slice_get, slice_set}
 use Rattle.svm_model.specs.Machine.Events.{without}
 use Rattle.svm_model.specs.Machine.Shapes.{single, IsVcpu}
 use Rattle.svm_model.specs.declared.names.VcpuId.{VcpuId}
-use Rattle.svm_model.specs.declared.vcpus.Inside.{Inside}
 use Rattle.plain_machine.specs.Single.{first_id}
 
 id_of : (guest index : ℕ) → guest ≡ 0 → index ≡ 0 → record { guest = record { 0 = guest }; index = index } ≡ first_id
@@ -27,12 +25,5 @@ set_first (suc cpu) p id h = absurd (omega arith)
 pub get_first : (cpu : ℕ) (p : Option VcpuId) → cpu < 1 → slice_get (p ∷ []) cpu ≡ Some p
 get_first zero p h = refl
 get_first (suc cpu) p h = absurd (omega arith)
-
--- outside of all VMCBs
-pub level_outside : (o : Option Inside) → o ≡ None → level_in o ≡ 1
-level_outside None e = refl
-level_outside (Some i) e = absurd (cc)
-
-pub ruleset levels = (level_outside)
 
 pub ruleset singles = (first_vcpu_id, set_first, get_first)

@@ -1,5 +1,5 @@
 -- The turn of the one vcpu of a world.
-use Rattle.std.proofs.Common.{◌≡◌, ◌∙◌, ℕ, Bool, false, List, [], ◌∷◌, Option, Some, None, ap, sym, refl}
+use Rattle.std.proofs.Common.{◌≡◌, ◌∙◌, ℕ, Bool, true, false, is_some, List, [], ◌∷◌, Option, Some, None, ap, sym, refl}
 use Rattle.svm_model.proofs.LastLemmas.{turn-denied, turn-outside}
 use Rattle.svm_model.specs.Machine.Bus.{Bus}
 use Rattle.svm_model.specs.Turn.Control.{space_of}
@@ -137,3 +137,11 @@ turn-taken refused facts bus tpr memory vcpu space new board after stepped same 
 
 pub needs_nothing : (kept : Bool) → Needs false kept
 needs_nothing kept e = absurd (cc)
+
+-- a write that was refused
+some_of : (o : Option PortWrite) → is_some o ≡ true → (write : PortWrite) × (o ≡ Some write)
+some_of None e = absurd (cc)
+some_of (Some write) e = (write, refl)
+
+pub out_of : (denied write : Option PortWrite) → denied ≡ write → is_some write ≡ true → (w : PortWrite) × (denied ≡ Some w)
+out_of denied write e h = let some = some_of write h in (some.0, e ∙ some.1)

@@ -1,5 +1,6 @@
 // The APIC of the vcpu, which no guest reaches yet.
 ghost use Rattle.std.specs.Prelude.{◌≡◌, None};
+ghost use Rattle.svm_model.specs.Machine.Apic.{accepted, expired};
 ghost use Rattle.plain_machine.specs.Single.{idle_apic};
 
 use turn_exec::Apics;
@@ -31,4 +32,18 @@ impl Apics for IdleApic {
     fn set_priority(&mut self, tpr: u8) {
         self.tpr = tpr;
     }
+}
+
+impl IdleApic {
+    /// Accepts a vector: it is dropped, as the APIC is not enabled.
+    #[tactic(auto, using(crate::proofs::Idle::idle))]
+    pub fn accept(&mut self, _vector: u8)
+        ensures { idle_apic self.new.tpr ≡ accepted (idle_apic self.old.tpr) _vector }
+    {}
+
+    /// The timer rings where it is due: it never is, as it does not run.
+    #[tactic(auto, using(crate::proofs::Idle::idle))]
+    pub fn expire(&mut self, _event: u32)
+        ensures { idle_apic self.new.tpr ≡ expired (idle_apic self.old.tpr) _event }
+    {}
 }

@@ -1,5 +1,5 @@
 // The plain machine: a world of one guest with one vcpu on one processor.
-ghost use Rattle.std.specs.Prelude.{◌≡◌, ℕ, ◌+◌, ◌*◌, ◌%◌, ◌<◌, ◌≤◌, Bool, true, false, Some, None, Err, List, [], ◌∷◌, length, is_ok, is_err, OnOk, OnErr, IfOk, IfErr, IfSome, IsTrue, slice_get, drop, take};
+ghost use Rattle.std.specs.Prelude.{◌≡◌, ℕ, ◌+◌, ◌*◌, ◌%◌, ◌<◌, ◌≤◌, Bool, true, false, Some, None, Err, List, [], ◌∷◌, length, is_err, is_some, OnOk, OnErr, IfOk, IfErr, IfSome, IsTrue, slice_get, drop, take};
 ghost use Rattle.std.specs.Option.{option_map};
 ghost use Rattle.svm_model.specs.Memory.Bytes.{IsWithin, guest_of, byte_at};
 ghost use Rattle.svm_model.specs.Machine.Guest.{level_in};
@@ -19,11 +19,11 @@ use crate::loading::load_segments;
 use crate::walking::take_turn;
 use host_memory::{GuestWindow, HostMemory, OutsideMemory, Steps};
 use image_format::{GuestImage, Image};
-use port_bus::{Bus, BusState};
+use port_bus::Ports;
 use std::alloc::{AllocError, Global};
 use std::marker::Model;
 use std::sync::ledger::Ledger;
-use svm_model::{Facts, RunEnd, Stepped, Vcpu};
+use svm_model::{Facts, PortWrite, RunEnd, Stepped, Vcpu};
 use vm_names::{CpuId, Effect, Ended, Event, GuestId, NoMemory, Registers, VcpuId};
 
 /// The plain machine. In clauses it is the world that it runs, and whether it is stopped. The bus of port devices stands
@@ -70,10 +70,13 @@ const NOTHING: Effect = Effect {
     ended: None,
 };
 
-/// What cut an event off: the refusal, and the number of the outward call that was refused.
+/// What cut an event off: the refusal, the number of the outward call that was refused, and what it was to write, if it was
+/// to write to a port.
+#[derive(Clone, Copy)]
 struct Cut {
     end: RunEnd,
     call: u64,
+    write: Option<PortWrite>,
 }
 
 /// The end that came in a turn of the vcpu.
@@ -107,15 +110,20 @@ fn facts_of(event: u32, features: u32, vcpu: &Vcpu, apic: &IdleApic) -> Facts
 impl PlainMachine {
     /// A turn of the vcpu. One whose guest was ended does nothing.
     #[tactic(auto, using(svm_model::proofs::WindowLemmas::windows, port_bus::proofs::Counts::counts))]
-    fn turn<L: Ledger>(&mut self, bus: &mut Bus, steps: &mut Steps<L>) -> Result<Option<Ended>, Cut>
-        ensures world { OnOk result (self.new.world ≡ (plain_turn self.old.world (⟦<Bus as BusState>⟧.bus bus.old) first_id).world) }
-        ensures bus { OnOk result (⟦<Bus as BusState>⟧.bus bus.new ≡ (plain_turn self.old.world (⟦<Bus as BusState>⟧.bus bus.old) first_id).bus) }
-        ensures ended { IfOk result (λ ended. ended ≡ (plain_turn self.old.world (⟦<Bus as BusState>⟧.bus bus.old) first_id).ended) }
-        ensures reached { IfErr result (λ cut. self.new.world ≡ (turn_of (Some cut.call) self.old.world (⟦<Bus as BusState>⟧.bus bus.old) first_id).world) }
-        ensures out { IfErr result (λ cut. IsOut cut.call self.old.world (⟦<Bus as BusState>⟧.bus bus.old) (Some (Some first_id))) }
-        ensures kept { OnErr result (⟦<Bus as BusState>⟧.bus bus.new ≡ ⟦<Bus as BusState>⟧.bus bus.old) }
-        ensures blamed { IfErr result (λ cut. Blames cut.end (⟦<Bus as BusState>⟧.faults bus.old) (⟦<Bus as BusState>⟧.faults bus.new)) }
-        ensures none_fell { NoneFell (⟦<Bus as BusState>⟧.faults bus.old) (⟦<Bus as BusState>⟧.faults bus.new) }
+    fn turn<B: Ports, L: Ledger>(
+        &mut self,
+        bus: &mut B,
+        steps: &mut Steps<L>,
+    ) -> Result<Option<Ended>, Cut>
+        ensures world { OnOk result (self.new.world ≡ (plain_turn self.old.world (B.bus bus.old) first_id).world) }
+        ensures bus { OnOk result (B.bus bus.new ≡ (plain_turn self.old.world (B.bus bus.old) first_id).bus) }
+        ensures ended { IfOk result (λ ended. ended ≡ (plain_turn self.old.world (B.bus bus.old) first_id).ended) }
+        ensures reached { IfErr result (λ cut. self.new.world ≡ (turn_of (Some cut.call) self.old.world (B.bus bus.old) first_id).world) }
+        ensures denied { IfErr result (λ cut. (turn_of (Some cut.call) self.old.world (B.bus bus.old) first_id).denied ≡ cut.write) }
+        ensures out { IfErr result (λ cut. is_some cut.write ≡ true) }
+        ensures kept { OnErr result (B.bus bus.new ≡ B.bus bus.old) }
+        ensures blamed { IfErr result (λ cut. Blames cut.end (B.faults bus.old) (B.faults bus.new)) }
+        ensures none_fell { NoneFell (B.faults bus.old) (B.faults bus.new) }
         ensures shape { world_shape self.new.world ≡ world_shape self.old.world }
         ensures number { self.new.world.event ≡ self.old.world.event }
         ensures stopped { self.new.stopped ≡ self.old.stopped }
@@ -141,15 +149,20 @@ impl PlainMachine {
             Some(end) => Err(Cut {
                 end,
                 call: turn.calls,
+                write: turn.denied,
             }),
         }
     }
 
-    /// At the start of each event the due timers ring: none yet, as no guest reaches its APIC.
-    #[tactic(auto, using(crate::proofs::Idle::idle))]
+    /// At the start of each event the due timers ring, but those of a guest that was ended.
+    #[tactic(auto, unfolding(svm_model::specs::Machine::Events::with_timers))]
     fn ring_timers(&mut self)
         ensures { self.new ≡ record { world = with_timers self.old.world; stopped = self.old.stopped } }
-    {}
+    {
+        if self.ended.is_none() {
+            self.apic.expire(self.event);
+        }
+    }
 
     /// Places the vcpu on the processor.
     #[tactic(auto, using(crate::proofs::Singles::singles))]
@@ -161,19 +174,21 @@ impl PlainMachine {
         self.placed = Some(vcpu);
     }
 
-    /// The APIC of a vcpu accepts a vector: it drops it, as no guest has enabled its APIC.
-    #[tactic(auto, using(crate::proofs::Singles::singles, crate::proofs::Idle::idle))]
+    /// The APIC of a vcpu accepts a vector, unless its guest was ended.
+    #[tactic(auto, using(crate::proofs::Singles::singles))]
     fn interrupt(&mut self, vcpu: VcpuId, vector: u8)
         requires { IsNamed (world_shape self.old.world) (Event.Irq vcpu vector) }
         ensures { self.new ≡ record { world = changed_guest self.old.world vcpu (guest_with_irq vcpu.index vector); stopped = self.old.stopped } }
     {
         let _ = vcpu;
-        let _ = vector;
+        if self.ended.is_none() {
+            self.apic.accept(vector);
+        }
     }
 
     /// An NMI is pending at a vcpu, unless its guest was ended.
     #[tactic(auto, using(crate::proofs::Singles::singles))]
-    fn interrupt_for_good(&mut self, vcpu: VcpuId)
+    fn make_nmi_pending(&mut self, vcpu: VcpuId)
         requires { IsNamed (world_shape self.old.world) (Event.Nmi vcpu) }
         ensures { self.new ≡ record { world = changed_guest self.old.world vcpu (guest_with_nmi vcpu.index); stopped = self.old.stopped } }
     {
@@ -204,22 +219,22 @@ impl PlainMachine {
 
     /// A turn of the vcpu that is placed on the processor, or nothing.
     #[tactic(auto, using(port_bus::proofs::Counts::counts), unfolding(svm_model::specs::Machine::Events::event_of, svm_model::specs::Machine::Runs::reached_of, svm_model::specs::Machine::Runs::HandsOverOf))]
-    fn run<L: Ledger>(
+    fn run<B: Ports, L: Ledger>(
         &mut self,
         cpu: CpuId,
-        bus: &mut Bus,
+        bus: &mut B,
         steps: &mut Steps<L>,
     ) -> Result<Effect, Cut>
         requires named { IsNamed (world_shape self.old.world) (Event.Run cpu) }
         requires few { self.old.world.event < 1048576 }
-        ensures world { OnOk result (self.new.world ≡ (event_of self.old.world (⟦<Bus as BusState>⟧.bus bus.old) (Event.Run cpu)).world) }
-        ensures bus { OnOk result (⟦<Bus as BusState>⟧.bus bus.new ≡ (event_of self.old.world (⟦<Bus as BusState>⟧.bus bus.old) (Event.Run cpu)).bus) }
-        ensures effect { IfOk result (λ effect. effect ≡ (event_of self.old.world (⟦<Bus as BusState>⟧.bus bus.old) (Event.Run cpu)).effect) }
-        ensures reached { IfErr result (λ cut. self.new.world ≡ reached_of cut.call self.old.world (⟦<Bus as BusState>⟧.bus bus.old) (Event.Run cpu)) }
-        ensures hands_over { IfErr result (λ cut. HandsOverOf cut.call self.old.world (⟦<Bus as BusState>⟧.bus bus.old) (Event.Run cpu)) }
-        ensures kept { OnErr result (⟦<Bus as BusState>⟧.bus bus.new ≡ ⟦<Bus as BusState>⟧.bus bus.old) }
-        ensures blamed { IfErr result (λ cut. Blames cut.end (⟦<Bus as BusState>⟧.faults bus.old) (⟦<Bus as BusState>⟧.faults bus.new)) }
-        ensures none_fell { NoneFell (⟦<Bus as BusState>⟧.faults bus.old) (⟦<Bus as BusState>⟧.faults bus.new) }
+        ensures world { OnOk result (self.new.world ≡ (event_of self.old.world (B.bus bus.old) (Event.Run cpu)).world) }
+        ensures bus { OnOk result (B.bus bus.new ≡ (event_of self.old.world (B.bus bus.old) (Event.Run cpu)).bus) }
+        ensures effect { IfOk result (λ effect. effect ≡ (event_of self.old.world (B.bus bus.old) (Event.Run cpu)).effect) }
+        ensures reached { IfErr result (λ cut. self.new.world ≡ reached_of cut.call self.old.world (B.bus bus.old) (Event.Run cpu)) }
+        ensures hands_over { IfErr result (λ cut. HandsOverOf cut.call self.old.world (B.bus bus.old) (Event.Run cpu)) }
+        ensures kept { OnErr result (B.bus bus.new ≡ B.bus bus.old) }
+        ensures blamed { IfErr result (λ cut. Blames cut.end (B.faults bus.old) (B.faults bus.new)) }
+        ensures none_fell { NoneFell (B.faults bus.old) (B.faults bus.new) }
         ensures shape { world_shape self.new.world ≡ world_shape self.old.world }
         ensures number { OnOk result (self.new.world.event ≡ self.old.world.event + 1) }
         ensures stopped { self.new.stopped ≡ self.old.stopped }
@@ -240,48 +255,52 @@ impl PlainMachine {
 
     /// Feeds a device.
     #[tactic(auto, using(port_bus::proofs::Counts::counts), unfolding(svm_model::specs::Machine::Events::event_of, svm_model::specs::Machine::Runs::reached_of, svm_model::specs::Machine::Runs::HandsOverOf))]
-    fn feed(&mut self, device: u8, value: u32, bus: &mut Bus) -> Result<Effect, Cut>
+    fn feed<B: Ports>(&mut self, device: u8, value: u32, bus: &mut B) -> Result<Effect, Cut>
         requires named { IsNamed (world_shape self.old.world) (Event.Feed device value) }
         requires few { self.old.world.event < 1048576 }
-        ensures world { OnOk result (self.new.world ≡ (event_of self.old.world (⟦<Bus as BusState>⟧.bus bus.old) (Event.Feed device value)).world) }
-        ensures bus { OnOk result (⟦<Bus as BusState>⟧.bus bus.new ≡ (event_of self.old.world (⟦<Bus as BusState>⟧.bus bus.old) (Event.Feed device value)).bus) }
-        ensures effect { IfOk result (λ effect. effect ≡ (event_of self.old.world (⟦<Bus as BusState>⟧.bus bus.old) (Event.Feed device value)).effect) }
-        ensures reached { IfErr result (λ cut. self.new.world ≡ reached_of cut.call self.old.world (⟦<Bus as BusState>⟧.bus bus.old) (Event.Feed device value)) }
-        ensures hands_over { IfErr result (λ cut. HandsOverOf cut.call self.old.world (⟦<Bus as BusState>⟧.bus bus.old) (Event.Feed device value)) }
-        ensures kept { OnErr result (⟦<Bus as BusState>⟧.bus bus.new ≡ ⟦<Bus as BusState>⟧.bus bus.old) }
-        ensures blamed { IfErr result (λ cut. Blames cut.end (⟦<Bus as BusState>⟧.faults bus.old) (⟦<Bus as BusState>⟧.faults bus.new)) }
-        ensures none_fell { NoneFell (⟦<Bus as BusState>⟧.faults bus.old) (⟦<Bus as BusState>⟧.faults bus.new) }
+        ensures world { OnOk result (self.new.world ≡ (event_of self.old.world (B.bus bus.old) (Event.Feed device value)).world) }
+        ensures bus { OnOk result (B.bus bus.new ≡ (event_of self.old.world (B.bus bus.old) (Event.Feed device value)).bus) }
+        ensures effect { IfOk result (λ effect. effect ≡ (event_of self.old.world (B.bus bus.old) (Event.Feed device value)).effect) }
+        ensures reached { IfErr result (λ cut. self.new.world ≡ reached_of cut.call self.old.world (B.bus bus.old) (Event.Feed device value)) }
+        ensures hands_over { IfErr result (λ cut. HandsOverOf cut.call self.old.world (B.bus bus.old) (Event.Feed device value)) }
+        ensures kept { OnErr result (B.bus bus.new ≡ B.bus bus.old) }
+        ensures blamed { IfErr result (λ cut. Blames cut.end (B.faults bus.old) (B.faults bus.new)) }
+        ensures none_fell { NoneFell (B.faults bus.old) (B.faults bus.new) }
         ensures shape { world_shape self.new.world ≡ world_shape self.old.world }
         ensures number { OnOk result (self.new.world.event ≡ self.old.world.event + 1) }
         ensures stopped { self.new.stopped ≡ self.old.stopped }
     {
-        match bus.feed(device, value) {
+        match bus.feed_device(device, value) {
             Ok(()) => {
                 self.finish_event();
                 Ok(NOTHING)
             }
-            Err(end) => Err(Cut { end, call: 0 }),
+            Err(end) => Err(Cut {
+                end,
+                call: 0,
+                write: None,
+            }),
         }
     }
 
     /// What an event does, before a refusal of the bus stops the machine.
     #[tactic(auto, using(port_bus::proofs::Counts::counts), unfolding(svm_model::specs::Machine::Events::event_of, svm_model::specs::Machine::Runs::reached_of, svm_model::specs::Machine::Runs::HandsOverOf))]
-    fn happen<L: Ledger>(
+    fn happen<B: Ports, L: Ledger>(
         &mut self,
         event: Event,
-        bus: &mut Bus,
+        bus: &mut B,
         steps: &mut Steps<L>,
     ) -> Result<Effect, Cut>
         requires named { IsNamed (world_shape self.old.world) event }
         requires few { self.old.world.event < 1048576 }
-        ensures world { OnOk result (self.new.world ≡ (event_of self.old.world (⟦<Bus as BusState>⟧.bus bus.old) event).world) }
-        ensures bus { OnOk result (⟦<Bus as BusState>⟧.bus bus.new ≡ (event_of self.old.world (⟦<Bus as BusState>⟧.bus bus.old) event).bus) }
-        ensures effect { IfOk result (λ effect. effect ≡ (event_of self.old.world (⟦<Bus as BusState>⟧.bus bus.old) event).effect) }
-        ensures reached { IfErr result (λ cut. self.new.world ≡ reached_of cut.call self.old.world (⟦<Bus as BusState>⟧.bus bus.old) event) }
-        ensures hands_over { IfErr result (λ cut. HandsOverOf cut.call self.old.world (⟦<Bus as BusState>⟧.bus bus.old) event) }
-        ensures kept { OnErr result (⟦<Bus as BusState>⟧.bus bus.new ≡ ⟦<Bus as BusState>⟧.bus bus.old) }
-        ensures blamed { IfErr result (λ cut. Blames cut.end (⟦<Bus as BusState>⟧.faults bus.old) (⟦<Bus as BusState>⟧.faults bus.new)) }
-        ensures none_fell { NoneFell (⟦<Bus as BusState>⟧.faults bus.old) (⟦<Bus as BusState>⟧.faults bus.new) }
+        ensures world { OnOk result (self.new.world ≡ (event_of self.old.world (B.bus bus.old) event).world) }
+        ensures bus { OnOk result (B.bus bus.new ≡ (event_of self.old.world (B.bus bus.old) event).bus) }
+        ensures effect { IfOk result (λ effect. effect ≡ (event_of self.old.world (B.bus bus.old) event).effect) }
+        ensures reached { IfErr result (λ cut. self.new.world ≡ reached_of cut.call self.old.world (B.bus bus.old) event) }
+        ensures hands_over { IfErr result (λ cut. HandsOverOf cut.call self.old.world (B.bus bus.old) event) }
+        ensures kept { OnErr result (B.bus bus.new ≡ B.bus bus.old) }
+        ensures blamed { IfErr result (λ cut. Blames cut.end (B.faults bus.old) (B.faults bus.new)) }
+        ensures none_fell { NoneFell (B.faults bus.old) (B.faults bus.new) }
         ensures shape { world_shape self.new.world ≡ world_shape self.old.world }
         ensures number { OnOk result (self.new.world.event ≡ self.old.world.event + 1) }
         ensures stopped { self.new.stopped ≡ self.old.stopped }
@@ -293,8 +312,8 @@ impl PlainMachine {
             Event::Run { cpu } => return self.run(cpu, bus, steps),
             Event::Feed { device, value } => return self.feed(device, value, bus),
             Event::Irq { vcpu, vector } => self.interrupt(vcpu, vector),
-            Event::Nmi { vcpu } => self.interrupt_for_good(vcpu),
-            Event::Unplug { device } => bus.unplug(device),
+            Event::Nmi { vcpu } => self.make_nmi_pending(vcpu),
+            Event::Unplug { device } => bus.unplug_device(device),
             Event::Dump { .. } => {}
         }
         self.finish_event();
@@ -310,26 +329,25 @@ impl PlainMachine {
     /// that counted a fault in this call. The bus is then as it was, and the machine stands where the event had come to when
     /// that outward call of it was refused, with the vcpu before its instruction, and is stopped.
     #[tactic(auto, using(svm_model::proofs::EndLemmas::ends))]
-    pub fn event<L: Ledger>(
+    pub fn event<B: Ports, L: Ledger>(
         &mut self,
         event: Event,
-        bus: &mut Bus,
+        bus: &mut B,
         steps: &mut Steps<L>,
     ) -> Result<Effect, RunEnd>
         requires named { IsNamed (world_shape self.old.world) event }
         requires few { self.old.world.event < 1048576 }
         requires going { self.old.stopped ≡ false }
-        ensures world { OnOk result (self.new.world ≡ (plain_event self.old.world (⟦<Bus as BusState>⟧.bus bus.old) event).world) }
-        ensures bus { OnOk result (⟦<Bus as BusState>⟧.bus bus.new ≡ (plain_event self.old.world (⟦<Bus as BusState>⟧.bus bus.old) event).bus) }
-        ensures effect { IfOk result (λ effect. effect ≡ (plain_event self.old.world (⟦<Bus as BusState>⟧.bus bus.old) event).effect) }
+        ensures world { OnOk result (self.new.world ≡ (plain_event self.old.world (B.bus bus.old) event).world) }
+        ensures bus { OnOk result (B.bus bus.new ≡ (plain_event self.old.world (B.bus bus.old) event).bus) }
+        ensures effect { IfOk result (λ effect. effect ≡ (plain_event self.old.world (B.bus bus.old) event).effect) }
         ensures stopped { self.new.stopped ≡ is_err result }
-        ensures reached { OnErr result ((call : ℕ) × (self.new.world ≡ reached call self.old.world (⟦<Bus as BusState>⟧.bus bus.old) event) × HandsOver call self.old.world (⟦<Bus as BusState>⟧.bus bus.old) event) }
-        ensures kept { OnErr result (⟦<Bus as BusState>⟧.bus bus.new ≡ ⟦<Bus as BusState>⟧.bus bus.old) }
-        ensures blamed { IfErr result (λ end. Blames end (⟦<Bus as BusState>⟧.faults bus.old) (⟦<Bus as BusState>⟧.faults bus.new)) }
-        ensures none_fell { NoneFell (⟦<Bus as BusState>⟧.faults bus.old) (⟦<Bus as BusState>⟧.faults bus.new) }
+        ensures reached { OnErr result ((call : ℕ) × (self.new.world ≡ reached call self.old.world (B.bus bus.old) event) × HandsOver call self.old.world (B.bus bus.old) event) }
+        ensures kept { OnErr result (B.bus bus.new ≡ B.bus bus.old) }
+        ensures blamed { IfErr result (λ end. Blames end (B.faults bus.old) (B.faults bus.new)) }
+        ensures none_fell { NoneFell (B.faults bus.old) (B.faults bus.new) }
         ensures ends_stay { EndsStay self.old.world self.new.world }
         ensures shape { world_shape self.new.world ≡ world_shape self.old.world }
-        ensures well_formed { IsWellFormed self.new.world }
         ensures number { OnOk result (self.new.world.event ≡ self.old.world.event + 1) }
         ensures steps { steps.new ≤ steps.old + 896 }
         ensures later { steps.old ≤ steps.new }
@@ -342,6 +360,17 @@ impl PlainMachine {
                 Err(cut.end)
             }
         }
+    }
+
+    /// A law of the machine, whatever it has run: each processor has a place, a vcpu that is placed is there and stands on one
+    /// processor alone, and each guest's memory has whole pages.
+    #[tactic(auto, using(crate::proofs::WellFormed::forms))]
+    pub fn is_well_formed(&self) -> bool
+        ensures answer { result ≡ true }
+        ensures world { IsWellFormed self.now.world }
+    {
+        let _ = self.event;
+        true
     }
 
     /// Whether the machine is stopped, since the bus refused what an event handed it. It then takes no event.
@@ -362,13 +391,13 @@ impl PlainMachine {
     }
 
     /// The level of a vcpu, which the image has to have: 1, as no vcpu runs a guest of its own.
-    #[tactic(auto, using(crate::proofs::Singles::singles, crate::proofs::Singles::levels))]
+    #[tactic(auto, using(crate::proofs::Singles::singles))]
     pub fn level(&self, vcpu: VcpuId) -> u8
         requires { IsVcpu (world_shape self.now.world) vcpu }
         ensures { option_map (λ v. level_in v.inside) (vcpu_in self.now.world vcpu) ≡ Some result }
     {
         let _ = vcpu;
-        1
+        level_of(&self.vcpu)
     }
 
     /// Whether a vcpu, which the image has to have, is halted.
@@ -444,6 +473,16 @@ impl PlainMachine {
             event: 0,
             stopped: false,
         })
+    }
+}
+
+/// L1, or L2 inside a VMCB.
+fn level_of(vcpu: &Vcpu) -> u8
+    ensures { result ≡ level_in vcpu.now.inside }
+{
+    match vcpu.inside {
+        None => 1,
+        Some(_) => 2,
     }
 }
 

@@ -46,7 +46,7 @@ IsReached AllEvents count all = count ≡ all
 
 abbrev pub HandsOverIt : World → Bus → Option Event → Type 0
 HandsOverIt w bus None = ⊥
-HandsOverIt w bus (Some event) = HandsOver w bus event
+HandsOverIt w bus (Some event) = (call : ℕ) × HandsOver call w bus event
 
 -- A list of events was run up to one that was refused: the bus is behind so many of the first, and the next one hands
 -- something to it.

@@ -59,42 +59,34 @@ const FILE_DEVICE: u8 = 15;
 /// The file of that device.
 const DEVICE_FILE: &str = "port15.out";
 
-/// Makes the shelf, the sink, and the bus of fifteen devices in memory, which never fail, and one over a file.
+/// Makes the shelf and the sink, and runs.
 fn open(rt: &HostRuntime, words: &Vec<String>) -> Result<Status, AllocError> {
+    let words: Vec<&str> = words.iter().map(|w| w.as_str()).collect(rt.alloc())?;
+    run::<Brand, Brand>(rt, &words, Blank::new(1), Blank::new(1))
+}
+
+/// Makes the bus of fifteen devices in memory, which never fail, and one over a file.
+fn open_bus(rt: &HostRuntime) -> Result<Bus, AllocError> {
     let alloc = rt.alloc();
-    let words: Vec<&str> = words.iter().map(|w| w.as_str()).collect(alloc)?;
     let mut devices: Vec<Box<dyn PortDevice>> = Vec::new(alloc);
     for _place in 0..FILE_DEVICE {
         devices.push(Box::new(alloc, MemoryDevice::new(alloc, Vec::new(alloc)))?)?;
     }
     let name = String::from_str(alloc, DEVICE_FILE)?;
     devices.push(Box::new(alloc, FileDevice::new(rt.clone()?, alloc, name))?)?;
-    let Ok(bus) = Bus::new(alloc, devices) else {
-        return Ok(Status::NoMemory);
-    };
-    let shelf = FileShelf::new(rt.clone()?);
-    let sink = StdSink::new(rt.clone()?);
-    Ok(run::<Brand, Brand>(
-        alloc,
-        &words,
-        shelf,
-        bus,
-        sink,
-        Blank::new(1),
-        Blank::new(1),
-    ))
+    match Bus::new(alloc, devices) {
+        Ok(bus) => Ok(bus),
+        Err(_) => Err(AllocError),
+    }
 }
 
-/// Makes the counters of reads and of entries, and does the job.
+/// Makes the counters of reads and of entries and the real objects, and does the job.
 fn run<L: Ledger, M: Ledger>(
-    alloc: Global,
+    rt: &HostRuntime,
     words: &[&str],
-    mut shelf: FileShelf<HostRuntime>,
-    mut bus: Bus,
-    mut sink: StdSink<HostRuntime>,
     reads: Blank,
     entries: Blank,
-) -> Status
+) -> Result<Status, AllocError>
     requires reads { reads.name ≡ L.name }
     requires read_parts { reads.parts ≡ L.parts }
     requires read_some { 0 < reads.parts }
@@ -102,17 +94,20 @@ fn run<L: Ledger, M: Ledger>(
     requires entry_parts { entries.parts ≡ M.parts }
     requires entry_some { 0 < entries.parts }
 {
+    let mut bus = open_bus(rt)?;
+    let mut shelf = FileShelf::new(rt.clone()?);
+    let mut sink = StdSink::new(rt.clone()?);
     let mut steps = counted_from::<L>(reads);
     let mut entries = counted_from::<M>(entries);
-    svm_run(
-        alloc,
+    Ok(svm_run(
+        rt.alloc(),
         words,
         &mut shelf,
         &mut bus,
         &mut sink,
         &mut steps,
         &mut entries,
-    )
+    ))
 }
 
 #[cfg(test)]

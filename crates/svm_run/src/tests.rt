@@ -10,7 +10,7 @@ use byte_shelf::{MemoryShelf, MemorySink};
 use host_memory::{Steps, counted_from};
 use image_format::{Image, ImageReason};
 use plain_machine::PlainMachine;
-use port_bus::{Bus, MemoryDevice, PortDevice};
+use port_bus::{Bus, MemoryDevice, PortDevice, Ports};
 use script_format::ScriptReason;
 use std::alloc::{AllocError, Global};
 use std::marker::Brand;
@@ -508,10 +508,10 @@ const VCPU: VcpuId = VcpuId {
 };
 
 /// The vcpu is placed and takes a turn.
-fn take_a_turn<L: Ledger>(
+fn take_a_turn<B: Ports, L: Ledger>(
     rt: &impl Abort,
     machine: &mut PlainMachine,
-    bus: &mut Bus,
+    bus: &mut B,
     steps: &mut Steps<L>,
 )
     requires shape { world_shape machine.old.world ≡ single }
@@ -529,10 +529,10 @@ fn take_a_turn<L: Ledger>(
 }
 
 /// The device of the port fails: the machine stops, and the vcpu stands before the write.
-fn is_refused<L: Ledger>(
+fn is_refused<B: Ports, L: Ledger>(
     rt: &impl Abort,
     machine: &mut PlainMachine,
-    bus: &mut Bus,
+    bus: &mut B,
     steps: &mut Steps<L>,
 )
     requires shape { world_shape machine.old.world ≡ single }
@@ -550,7 +550,7 @@ fn is_refused<L: Ledger>(
     assert!(rt; machine.event_number() == 1);
     assert!(rt; machine.registers(VCPU).rip == 0x5000);
     assert!(rt; machine.memory_byte(GuestId(0), 0x4028, steps) == Ok(0x27));
-    assert!(rt; bus.output().is_empty());
+    assert!(rt; bus.writes().is_empty());
 }
 
 /// The vcpu has halted, and the entry that its fetch used has its accessed bit.
@@ -565,12 +565,12 @@ fn has_halted<L: Ledger>(rt: &impl Abort, machine: &PlainMachine, steps: &mut St
 }
 
 #[tactic(auto, using(svm_model::proofs::WorldLemmas::worlds))]
-fn looked_at<L: Ledger>(
+fn looked_at<B: Ports, L: Ledger>(
     rt: &impl Abort,
     alloc: Global,
     image: &Image,
     refused: bool,
-    bus: &mut Bus,
+    bus: &mut B,
     reads: Blank,
 ) -> Result<(), NoMemory>
     requires lawful { IsLawfulImage image.now }
@@ -610,7 +610,7 @@ fn a_machine_shows_its_vcpu(rt: HostRuntime) -> Result<(), Fail> {
         }
         assert!(rt; devices.len() == 16);
         let mut bus = Bus::new(alloc, devices)?;
-        looked_at::<Brand>(&rt, alloc, &image, refused, &mut bus, Blank::new(1))?;
+        looked_at::<Bus, Brand>(&rt, alloc, &image, refused, &mut bus, Blank::new(1))?;
     }
     Ok(())
 }

@@ -22,7 +22,7 @@ use byte_shelf::{Shelf, Sink, SinkRefusal, write_all};
 use host_memory::Steps;
 use image_format::Image;
 use plain_machine::PlainMachine;
-use port_bus::{Bus, BusState, RunEnd};
+use port_bus::{Bus, BusState, Ports, RunEnd};
 use script_format::Script;
 use std::alloc::Global;
 use std::sync::ledger::Ledger;
@@ -45,17 +45,17 @@ fn refuse<K: Sink>(sink: &mut K, status: Status) -> Status
 
 /// Prints the report of a machine that has run all events.
 #[tactic(auto, using(crate::proofs::Received::received), unfolding(crate::specs::Outcome::outcome_after))]
-fn finish<K: Sink>(alloc: Global, machine: &PlainMachine, bus: &Bus, sink: &mut K) -> Status
+fn finish<B: Ports, K: Sink>(alloc: Global, machine: &PlainMachine, bus: &B, sink: &mut K) -> Status
     requires { world_shape machine.now.world ≡ single }
-    ensures exact { IsDetermined result → result ≡ (outcome_after (record { world = machine.now.world; bus = ⟦<Bus as BusState>⟧.bus bus.now })).status }
+    ensures exact { IsDetermined result → result ≡ (outcome_after (record { world = machine.now.world; bus = B.bus bus.now })).status }
     ensures reached { (count : ℕ) → IsReached (meaning_of result).events count count }
     ensures not_refused { (count : ℕ) (before : BusRecord) (run : Job) → IsRefusedAt (meaning_of result).events count before run }
     ensures run { IsBeforeRun result → ⊥ }
-    ensures printed { Receives (meaning_of result).printed (outcome_after (record { world = machine.now.world; bus = ⟦<Bus as BusState>⟧.bus bus.now })).text (status_line result) (K.written sink.old) (K.written sink.new)
+    ensures printed { Receives (meaning_of result).printed (outcome_after (record { world = machine.now.world; bus = B.bus bus.now })).text (status_line result) (K.written sink.old) (K.written sink.new)
         (Rose (K.faults sink.old) (K.faults sink.new) ⊎ Rose (K.refusals sink.old) (K.refusals sink.new)) }
     ensures cause { (s t : ℕ) (d e : List (Option ℕ)) → HasCause (meaning_of result).blame s t (K.faults sink.old) (K.faults sink.new) d e }
 {
-    let Ok(text) = report(alloc, machine, bus.output()) else {
+    let Ok(text) = report(alloc, machine, bus.writes()) else {
         return refuse(sink, Status::NoMemory);
     };
     match write_all(sink, &text) {
@@ -67,11 +67,11 @@ fn finish<K: Sink>(alloc: Global, machine: &PlainMachine, bus: &Bus, sink: &mut 
 }
 
 /// Runs a script on the machine of an image, and prints the report.
-fn run_job<K: Sink, L: Ledger>(
+fn run_job<B: Ports, K: Sink, L: Ledger>(
     alloc: Global,
     image: &Image,
     script: &Script,
-    bus: &mut Bus,
+    bus: &mut B,
     sink: &mut K,
     steps: &mut Steps<L>,
 ) -> Status
@@ -79,12 +79,12 @@ fn run_job<K: Sink, L: Ledger>(
     requires offered { offered_test image.now ≡ true }
     requires script { IsLawful (image_shape image.now) script.now }
     requires count { length (events_of script.now) ≡ script.now.events }
-    ensures exact { IsDetermined result → result ≡ (completed (⟦<Bus as BusState>⟧.bus bus.old) (job image.now script.now)).status }
+    ensures exact { IsDetermined result → result ≡ (completed (B.bus bus.old) (job image.now script.now)).status }
     ensures run { IsBeforeRun result → ⊥ }
-    ensures ends { EndsRun (meaning_of result) (status_line result) (job image.now script.now) (⟦<Bus as BusState>⟧.bus bus.old) (⟦<Bus as BusState>⟧.bus bus.new) (K.written sink.old) (K.written sink.new)
+    ensures ends { EndsRun (meaning_of result) (status_line result) (job image.now script.now) (B.bus bus.old) (B.bus bus.new) (K.written sink.old) (K.written sink.new)
         (Rose (K.faults sink.old) (K.faults sink.new) ⊎ Rose (K.refusals sink.old) (K.refusals sink.new)) }
-    ensures cause { (s t : ℕ) → HasCause (meaning_of result).blame s t (K.faults sink.old) (K.faults sink.new) (⟦<Bus as BusState>⟧.faults bus.old) (⟦<Bus as BusState>⟧.faults bus.new) }
-    ensures steps { steps.new ≤ steps.old + 896 * (completed (⟦<Bus as BusState>⟧.bus bus.old) (job image.now script.now)).events }
+    ensures cause { (s t : ℕ) → HasCause (meaning_of result).blame s t (K.faults sink.old) (K.faults sink.new) (B.faults bus.old) (B.faults bus.new) }
+    ensures steps { steps.new ≤ steps.old + 896 * (completed (B.bus bus.old) (job image.now script.now)).events }
     ensures most_steps { steps.new ≤ steps.old + 939524096 }
 {
     let Ok(mut machine) = PlainMachine::open(alloc, image) else {

@@ -1,5 +1,5 @@
 -- The turn of the executor is the plain turn.
-use Rattle.std.proofs.Common.{◌≡◌, ◌∙◌, [], tt, refl, sym, rules}
+use Rattle.std.proofs.Common.{◌≡◌, ◌∙◌, [], refl, sym, rules}
 use Rattle.plain_machine.proofs.Turning.{Taken, needs_nothing, turn-taken}
 use Rattle.plain_machine.proofs.walking.take_turn.Goals as goal
 

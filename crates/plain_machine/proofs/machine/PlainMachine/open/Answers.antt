@@ -10,7 +10,7 @@ use Rattle.plain_machine.proofs.machine.PlainMachine.open.Goals as goal
 pub returns-clause-world : goal.returns-clause-world
 returns-clause-world c =
     let registers = c.index-registers.result.now in
-    opened _ c.index-guest.result.now registers _ (ap is_offered c.image.view_is ∙ c.requires.offered) c.index-guest.ensures
+    opened _ c.index-guest.result.now registers _ _ c.first_vcpu.ensures (ap is_offered c.image.view_is ∙ c.requires.offered) c.index-guest.ensures
     (c.index-registers.ensures ∙ ap (λ (k : ImageGuest). slice_index_or k.vcpus 0 registers) c.guest.view_is) c.in_ok-memory.ensures.memory
     ∙ ap world_of c.image.view_is
 
@@ -19,4 +19,4 @@ returns-clause-shape c = ap world_shape (returns-clause-world c) ∙ world_shape
 
 pub returns-clause-well_formed : goal.returns-clause-well_formed
 returns-clause-well_formed c =
-    single-well_formed _ _ c.in_ok-memory.window _ _ _ _ _ c.in_ok-memory.ensures.window c.in_ok-memory.ensures.pages none_placed
+    single-well_formed _ _ c.in_ok-memory.window _ _ _ _ _ _ c.in_ok-memory.ensures.window c.in_ok-memory.ensures.pages none_placed
