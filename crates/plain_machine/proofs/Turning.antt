@@ -1,5 +1,5 @@
 -- The turn of the one vcpu of a world.
-use Rattle.std.proofs.Common.{◌≡◌, ◌∙◌, ℕ, Bool, true, false, is_some, List, [], ◌∷◌, Option, Some, None, ap, sym, refl}
+use Rattle.std.proofs.Common.{◌≡◌, ◌∙◌, ℕ, Bool, true, false, is_some, List, [], ◌∷◌, Option, Some, None, ap, sym, refl, subst, slice_get}
 use Rattle.svm_model.proofs.LastLemmas.{turn-denied, turn-outside}
 use Rattle.svm_model.specs.Machine.Bus.{Bus}
 use Rattle.svm_model.specs.Turn.Control.{space_of}
@@ -9,8 +9,11 @@ use Rattle.svm_model.specs.Machine.Apic.{Apic, pending}
 use Rattle.svm_model.specs.Machine.Notices.{exited}
 use Rattle.svm_model.specs.Machine.PlainTurn.{settled, turned, turned_in, turned_under, way_of}
 use Rattle.svm_model.specs.Turn.Work.{turn_course}
+use Rattle.svm_model.specs.Machine.Runs.{HandsOverOf, IsOut}
 use Rattle.svm_model.specs.Machine.Turns.{Turn, board_of, end_by, turn_done, turn_of}
 use Rattle.svm_model.specs.Machine.World.{World}
+use Rattle.svm_model.specs.declared.names.CpuId.{CpuId}
+use Rattle.svm_model.specs.declared.names.Event.TheVariants.{Run}
 use Rattle.svm_model.specs.declared.exits.Exit.{Exit}
 use Rattle.svm_model.specs.declared.names.VcpuId.{VcpuId}
 use Rattle.svm_model.specs.declared.ports.PortWrite.{PortWrite}
@@ -145,3 +148,11 @@ some_of (Some write) e = (write, refl)
 
 pub out_of : (denied write : Option PortWrite) → denied ≡ write → is_some write ≡ true → (w : PortWrite) × (denied ≡ Some w)
 out_of denied write e h = let some = some_of write h in (some.0, e ∙ some.1)
+
+-- the write of the vcpu that is placed on the processor
+pub handed : (call : ℕ) (w : World) (bus : Bus) (cpu : CpuId) (o : Option VcpuId) (id : VcpuId) (write : Option PortWrite) →
+    slice_get w.placing cpu.0 ≡ Some o → o ≡ Some id → id ≡ first_id → (turn_of (Some call) w bus first_id).denied ≡ write → is_some write ≡ true → HandsOverOf call w bus (Run cpu)
+unfolding HandsOverOf
+handed call w bus cpu o id write placed there first denied some =
+    let whole : slice_get w.placing cpu.0 ≡ Some (Some first_id) = placed ∙ ap (λ (x : Option VcpuId). Some x) (there ∙ ap (λ (x : VcpuId). Some x) first) in
+    subst (λ (x : Option (Option VcpuId)). IsOut call w bus x) (sym whole) (out_of _ _ denied some)

@@ -157,7 +157,9 @@ impl PlainMachine {
     /// At the start of each event the due timers ring, but those of a guest that was ended.
     #[tactic(auto, unfolding(svm_model::specs::Machine::Events::with_timers))]
     fn ring_timers(&mut self)
-        ensures { self.new ≡ record { world = with_timers self.old.world; stopped = self.old.stopped } }
+        ensures timers { self.new ≡ record { world = with_timers self.old.world; stopped = self.old.stopped } }
+        ensures shape { world_shape self.new.world ≡ world_shape self.old.world }
+        ensures number { self.new.world.event ≡ self.old.world.event }
     {
         if self.ended.is_none() {
             self.apic.expire(self.event);
@@ -178,7 +180,9 @@ impl PlainMachine {
     #[tactic(auto, using(crate::proofs::Singles::singles))]
     fn interrupt(&mut self, vcpu: VcpuId, vector: u8)
         requires { IsNamed (world_shape self.old.world) (Event.Irq vcpu vector) }
-        ensures { self.new ≡ record { world = changed_guest self.old.world vcpu (guest_with_irq vcpu.index vector); stopped = self.old.stopped } }
+        ensures accepted { self.new ≡ record { world = changed_guest self.old.world vcpu (guest_with_irq vcpu.index vector); stopped = self.old.stopped } }
+        ensures shape { world_shape self.new.world ≡ world_shape self.old.world }
+        ensures number { self.new.world.event ≡ self.old.world.event }
     {
         let _ = vcpu;
         if self.ended.is_none() {
@@ -190,7 +194,9 @@ impl PlainMachine {
     #[tactic(auto, using(crate::proofs::Singles::singles))]
     fn make_nmi_pending(&mut self, vcpu: VcpuId)
         requires { IsNamed (world_shape self.old.world) (Event.Nmi vcpu) }
-        ensures { self.new ≡ record { world = changed_guest self.old.world vcpu (guest_with_nmi vcpu.index); stopped = self.old.stopped } }
+        ensures pending { self.new ≡ record { world = changed_guest self.old.world vcpu (guest_with_nmi vcpu.index); stopped = self.old.stopped } }
+        ensures shape { world_shape self.new.world ≡ world_shape self.old.world }
+        ensures number { self.new.world.event ≡ self.old.world.event }
     {
         let _ = vcpu;
         if self.ended.is_none() {
@@ -245,7 +251,10 @@ impl PlainMachine {
             self.finish_event();
             return Ok(NOTHING);
         };
-        let ended = self.turn(bus, steps)?;
+        let ended = match self.turn(bus, steps) {
+            Ok(ended) => ended,
+            Err(cut) => return Err(cut),
+        };
         self.finish_event();
         Ok(Effect {
             vcpu: Some(vcpu),
@@ -308,16 +317,33 @@ impl PlainMachine {
         ensures later { steps.old ≤ steps.new }
     {
         match event {
-            Event::Place { cpu, vcpu } => self.place(cpu, vcpu),
-            Event::Run { cpu } => return self.run(cpu, bus, steps),
-            Event::Feed { device, value } => return self.feed(device, value, bus),
-            Event::Irq { vcpu, vector } => self.interrupt(vcpu, vector),
-            Event::Nmi { vcpu } => self.make_nmi_pending(vcpu),
-            Event::Unplug { device } => bus.unplug_device(device),
-            Event::Dump { .. } => {}
+            Event::Place { cpu, vcpu } => {
+                self.place(cpu, vcpu);
+                self.finish_event();
+                Ok(NOTHING)
+            }
+            Event::Run { cpu } => self.run(cpu, bus, steps),
+            Event::Feed { device, value } => self.feed(device, value, bus),
+            Event::Irq { vcpu, vector } => {
+                self.interrupt(vcpu, vector);
+                self.finish_event();
+                Ok(NOTHING)
+            }
+            Event::Nmi { vcpu } => {
+                self.make_nmi_pending(vcpu);
+                self.finish_event();
+                Ok(NOTHING)
+            }
+            Event::Unplug { device } => {
+                bus.unplug_device(device);
+                self.finish_event();
+                Ok(NOTHING)
+            }
+            Event::Dump { .. } => {
+                self.finish_event();
+                Ok(NOTHING)
+            }
         }
-        self.finish_event();
-        Ok(NOTHING)
     }
 
     /// Does one event of the schedule: places a vcpu, lets the placed vcpu take one turn, feeds a port device or unplugs it, or

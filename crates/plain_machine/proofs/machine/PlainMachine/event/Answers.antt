@@ -1,0 +1,40 @@
+-- The timers ring, and then the event happens; one that is cut off leaves the ends that were given.
+use Rattle.std.proofs.Common.{◌≡◌, ◌∙◌, ◌+◌, ℕ, Some, ap, sym, subst, arith, slice_get}
+use Rattle.svm_model.specs.Machine.Events.{event_of}
+use Rattle.svm_model.specs.Machine.Runs.{end_of_guest, reached_of}
+use Rattle.svm_model.specs.Machine.Shapes.{Shape, IsNamed, world_shape}
+use Rattle.svm_model.specs.Machine.World.{World}
+use Rattle.svm_model.proofs.EndLemmas.{event-ends_stay, reached-ends_stay}
+use Rattle.plain_machine.specs.Single.{Machine}
+use Rattle.plain_machine.proofs.machine.PlainMachine.event.Goals as goal
+
+pub happen-requires-clause-named : goal.happen-requires-clause-named
+happen-requires-clause-named g c = subst (λ (s : Shape). IsNamed s c.args.event) (sym c.ring_timers.ensures.shape) c.requires.named
+
+pub happen-requires-clause-few : goal.happen-requires-clause-few
+happen-requires-clause-few g c = omega (arith, c.ring_timers.ensures.number, c.requires.few)
+
+pub returns-in-Ok-clause-ends_stay : goal.returns-in-Ok-clause-ends_stay
+returns-in-Ok-clause-ends_stay g c = λ guest e s.
+    let bus = g.B.Ports.bus c.args.bus.now in
+    let P : World → Type 0 = λ w. end_of_guest (slice_get w.guests guest) ≡ Some e in
+    subst P (sym (c.in-Ok.ensures.world ∙ ap (λ (m : Machine). (event_of m.world bus c.args.event).world) c.ring_timers.ensures.timers))
+    (event-ends_stay c.args.self.now.world bus c.args.event guest e s)
+
+pub returns-in-Ok-clause-shape : goal.returns-in-Ok-clause-shape
+returns-in-Ok-clause-shape g c = c.happen.ensures.shape ∙ c.ring_timers.ensures.shape
+
+pub returns-in-Ok-clause-number : goal.returns-in-Ok-clause-number
+returns-in-Ok-clause-number g c = c.in-Ok.ensures.number ∙ ap (λ (n : ℕ). n + 1) c.ring_timers.ensures.number
+
+pub returns-in-Err-clause-ends_stay : goal.returns-in-Err-clause-ends_stay
+returns-in-Err-clause-ends_stay g c = λ guest e s.
+    let bus = g.B.Ports.bus c.args.bus.now in
+    let call = c.in-Err.cut.call in
+    let P : World → Type 0 = λ w. end_of_guest (slice_get w.guests guest) ≡ Some e in
+    subst P
+    (sym (ap (λ (m : Machine). m.world) c.self.view_is ∙ (c.in-Err.ensures.reached ∙ ap (λ (m : Machine). reached_of call m.world bus c.args.event) c.ring_timers.ensures.timers)))
+    (reached-ends_stay call c.args.self.now.world bus c.args.event guest e s)
+
+pub returns-in-Err-clause-shape : goal.returns-in-Err-clause-shape
+returns-in-Err-clause-shape g c = ap (λ (m : Machine). world_shape m.world) c.self.view_is ∙ (c.happen.ensures.shape ∙ c.ring_timers.ensures.shape)
