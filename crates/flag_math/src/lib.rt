@@ -1,8 +1,8 @@
 //! Arithmetic with the status flags: sums, differences, logic, shifts and rotations, multiplications and divisions of
 //! operands of 8, 16, 32 and 64 bits.
 //!
-//! It stands on svm_model, whose `specs/StatusFlags.antt`, `specs/Shifts.antt` and `specs/Products.antt` say over whole
-//! numbers what each operation gives, in the terms of volume 3, and `specs/Rflags.antt` where the flags stand in
+//! It stands on svm_model, whose `specs/Instructions/StatusFlags.antt`, `specs/Instructions/Shifts.antt` and `specs/Instructions/Products.antt` say over whole
+//! numbers what each operation gives, in the terms of volume 3, and `specs/Instructions/Rflags.antt` where the flags stand in
 //! RFLAGS. The contract that the layer above uses is one equation a call: the result and the flags are those of the
 //! definition of that name, as `sum_of` and `flags_of_sum`. Operands fit the width, which each call requires.
 #![tactic(auto)]

@@ -1,6 +1,6 @@
 //! The page walk over a guest's memory: from CR3 down four levels of tables to the leaf of a linear page.
 //!
-//! It stands on svm_model, whose `specs/PageTables.antt` says what a walk is, in the terms of volume 2, 'Long-Mode Page
+//! It stands on svm_model, whose `specs/Memory/PageTables.antt` says what a walk is, in the terms of volume 2, 'Long-Mode Page
 //! Translation' and 'Page-Protection Checks', and on host_memory, by whose counted reads alone it learns a table's
 //! bytes. The contract that the layers above use is that of `walk`: its answer and the memory after it are those of
 //! `walked`, no byte outside the guest's window changes, it reads 4 entries at most, and a fault changes nothing.

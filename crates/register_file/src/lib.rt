@@ -1,7 +1,7 @@
 //! The register file, and the operands of a row in it: registers by width and number, operands that are read and written
 //! in registers or by planned accesses, and the addresses of operands in memory.
 //!
-//! It stands on svm_model, whose `specs/Operands.antt` and `specs/Addresses.antt` say what each call gives, and on
+//! It stands on svm_model, whose `specs/Instructions/Operands.antt` and `specs/Instructions/Addresses.antt` say what each call gives, and on
 //! flag_math, which says where the status flags stand in RFLAGS. The contract that the layers above use is one equation
 //! a call, with the definition of that name. `row_table` takes the addresses from here, and `row_exec` the rest; no
 //! other code of a user row reads or writes registers.

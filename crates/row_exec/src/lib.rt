@@ -1,6 +1,6 @@
 //! Executing a decoded user row: what it does to the registers, and the values that it writes to memory.
 //!
-//! It stands on svm_model, whose `specs/Apply.antt` says, in the terms of volume 3, what each row does, one equation a
+//! It stands on svm_model, whose `specs/Instructions/Apply.antt` says, in the terms of volume 3, what each row does, one equation a
 //! row; on flag_math, which computes results and flags; on row_table, which tells a form's operands; and on
 //! register_file, the one place where registers are read and written. The contract that the layer above uses is that of
 //! `apply`: where `applied` gives a new state, registers and results are that state and the answer is Done; where it gives

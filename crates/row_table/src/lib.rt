@@ -4,8 +4,8 @@
 //! the bytes, or some form goes on from them, or a byte is the first with which no form goes on. It is pure over a slice
 //! and keeps nothing. The forms stand as one list, a line each in the manual's order, in `svm_model`, on which the crate
 //! stands; definitions and code both read it there. What a form is stands there also as a relation between bytes and row
-//! (`specs/Spelling.antt`), of which `decode`'s contract speaks too. `plan` lists the data accesses of a row, in order, as
-//! `specs/Planning.antt` has them. The other calls look a form up in the columns of the list. The machines use `decode`'s
+//! (`specs/Instructions/Spelling.antt`), of which `decode`'s contract speaks too. `plan` lists the data accesses of a row, in order, as
+//! `specs/Instructions/Planning.antt` has them. The other calls look a form up in the columns of the list. The machines use `decode`'s
 //! and `plan`'s clauses.
 #![tactic(auto)]
 
