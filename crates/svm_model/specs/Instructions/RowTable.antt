@@ -1,5 +1,5 @@
--- The table of instruction rows, and the line of a form. Its lines and columns stand in src/instruction_table.rt, a line for
--- each form of volume 3 ('General-Purpose Instruction Reference' and 'System Instruction Reference').
+-- The table of instruction rows, and the line of a form. Its lines and columns stand in src/instruction_table.rt, a line
+-- for each form of volume 3 ('General-Purpose Instruction Reference' and 'System Instruction Reference').
 use Rattle.std.specs.Prelude.{ℕ, List, Bool, true, false, slice_index_or}
 use Rattle.svm_model.specs.Instructions.RowNumbers.{form_number}
 use Rattle.svm_model.specs.declared.instruction_table.TheConstants.{TABLE}
