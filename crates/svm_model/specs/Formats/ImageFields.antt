@@ -18,8 +18,6 @@ abbrev pub ◌>>=◌ : {A B : Type 0} → Result A ImageFault → (A → Result 
 (Ok x) >>= f = f x
 (Err e) >>= f = Err e
 
--- Fields, in the order of the bytes. Each gives its value and what is left after it.
-
 -- a field goes past the end: the place is the image's length
 abbrev pub short : Source → ImageFault
 short s = record { place = s.place + length s.rest; reason = Short }

@@ -6,8 +6,6 @@ use Rattle.svm_model.specs.declared.register_file.Segment.{Segment}
 use Rattle.svm_model.specs.Formats.Image.{ImageFault}
 use Rattle.svm_model.specs.Formats.ImageFields.{Source, ◌>>=◌, number_in, zero_in, root_in, linear_in, flags_in}
 
--- The records.
-
 abbrev pub no_segment : Segment
 no_segment = record { selector = 0; attributes = 0; limit = 0; base = 0 }
 

@@ -11,8 +11,6 @@ use Rattle.svm_model.specs.declared.names.Event.{Event}
 use Rattle.svm_model.specs.declared.names.Event.TheVariants.{Place, Run, Feed, Unplug}
 use Rattle.svm_model.specs.Formats.ScriptWords.{◌>>=◌, words_of, is_text, is_comment, number_in}
 
--- Lines that are not skipped. Each gives the event, with the number of its first one, and how often it comes.
-
 -- a value passes the test, or is the reason
 abbrev pub judged : {A : Type 0} → ScriptReason → Bool → A → Result A ScriptReason
 judged reason good x = if good then Ok x else Err reason

@@ -6,8 +6,6 @@ use Rattle.svm_model.specs.Memory.Bytes.{value_of_bytes}
 use Rattle.svm_model.specs.declared.apics.Ipi.{Ipi}
 use Rattle.svm_model.specs.Machine.Apic.{Apic, highest, processor_priority, out_of_service, current_count}
 
--- The registers ('Local APIC Registers').
-
 -- by name; a set of vectors is eight registers, the local vector table six
 pub data Register : Type 0 where
   Id : Register

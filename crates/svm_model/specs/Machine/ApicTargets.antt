@@ -5,8 +5,6 @@ use Rattle.svm_model.specs.Memory.Bits.{has_some}
 use Rattle.svm_model.specs.declared.apics.Ipi.{Ipi}
 use Rattle.svm_model.specs.Machine.Apic.{Apic, processor_priority, is_enabled}
 
--- The targets of an interprocessor interrupt.
-
 -- in the flat model a common bit of LDR and the destination; in the cluster model the same cluster and a common bit below
 abbrev pub is_logical_target : Apic → ℕ → Bool
 is_logical_target a destination =

@@ -13,8 +13,6 @@ use Rattle.svm_model.specs.declared.names.VcpuId.{VcpuId}
 use Rattle.svm_model.specs.Machine.World.{World}
 use Rattle.svm_model.specs.Machine.Turns.{Turn, with_nmi, plain_turn}
 
--- An event.
-
 -- what an event makes of the world and the bus, what it did, and what it tells
 pub record Happened : Type 0 where
   pub world : World

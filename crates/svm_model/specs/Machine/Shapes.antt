@@ -10,8 +10,6 @@ use Rattle.svm_model.specs.declared.names.VcpuId.{VcpuId}
 use Rattle.svm_model.specs.declared.register_file.Registers.{Registers}
 use Rattle.svm_model.specs.Machine.World.{World}
 
--- What is named in events.
-
 -- the number of processors, and that of the vcpus of each guest
 pub record Shape : Type 0 where
   pub cpus : ℕ

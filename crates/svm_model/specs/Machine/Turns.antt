@@ -16,8 +16,6 @@ use Rattle.svm_model.specs.declared.turns.Stepped.{Stepped}
 use Rattle.svm_model.specs.declared.turns.Stepped.TheVariants.{Ends}
 use Rattle.svm_model.specs.Machine.World.{World}
 
--- A vcpu's turn.
-
 -- what a turn makes of the world and the bus: the end that came in it, the write to a port that was refused in it, and what it
 -- tells
 pub record Turn : Type 0 where

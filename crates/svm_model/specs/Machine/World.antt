@@ -1,5 +1,4 @@
--- The plain machine: a world of guests beside the bus of their port devices, and what each event makes of both. It walks
--- from the root at each access.
+-- The world of the plain machine: its guests, and the vcpu that is placed on each processor.
 use Rattle.std.specs.Prelude.{ℕ, ◌+◌, ◌*◌, List, [], ◌∷◌, true, false, Option, None, map, replicate}
 use Rattle.svm_model.specs.Machine.Apic.{Apic, first_apic}
 use Rattle.svm_model.specs.Memory.Bytes.{put_at}

@@ -7,8 +7,6 @@ use Rattle.svm_model.specs.declared.page_tables.Paging.{Paging}
 use Rattle.svm_model.specs.Memory.OuterPasses.{Reached}
 use Rattle.svm_model.specs.Memory.NestedPaging.{nested_last, nested_from}
 
--- A walk in its midst.
-
 -- The pass that is next: of the entry of a table at this level, or at level 0 of the final page. What the walk has: the
 -- table's guest-physical address, the entries used so far, and whether a bit was set.
 pub record Halfway : Type 0 where

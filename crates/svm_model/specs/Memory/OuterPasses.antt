@@ -15,8 +15,6 @@ use Rattle.svm_model.specs.declared.page_tables.Pass.{Pass}
 use Rattle.svm_model.specs.declared.page_tables.Walked.{Walked}
 use Rattle.svm_model.specs.declared.page_tables.Walked.TheVariants.{Leaf, PageFault, Ended}
 
--- A pass.
-
 -- the outer level takes every pass for a user's, heeds L1's EFER.NXE, and ignores G
 abbrev pub outer_paging : Nesting → Paging
 outer_paging n = record { root = n.root; write_protect = true; no_execute = n.no_execute; page_global = false }

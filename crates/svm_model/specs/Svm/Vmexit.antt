@@ -13,8 +13,6 @@ use Rattle.svm_model.specs.declared.vcpus.Inside.{Inside}
 use Rattle.svm_model.specs.declared.vmcbs.Field.{Field}
 use Rattle.svm_model.specs.declared.vmcbs.Field.TheVariants as f
 
--- Exit.
-
 -- what a processor is behind each exit, in its registers
 abbrev pub host_registers : Registers → Registers
 host_registers r = record r { dr7 = 0x400; cpl = 0; shadow = false }

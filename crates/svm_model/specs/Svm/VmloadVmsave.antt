@@ -6,8 +6,6 @@ use Rattle.svm_model.specs.declared.vmcbs.Field.TheVariants as f
 use Rattle.svm_model.specs.declared.windows.OutsideMemory.{OutsideMemory}
 use Rattle.svm_model.specs.Svm.Vmexit.{stored, stored_segment}
 
--- VMLOAD and VMSAVE.
-
 -- the least byte that they touch is that of FS
 abbrev pub moved_at : List ℕ → ℕ → Option OutsideMemory
 moved_at memory vmcb =

@@ -12,8 +12,6 @@ use Rattle.svm_model.specs.declared.vcpus.Inside.{Inside}
 use Rattle.svm_model.specs.declared.vcpus.Kept.{Kept}
 use Rattle.svm_model.specs.declared.vmcbs.Field.TheVariants as f
 
--- Entry.
-
 -- what is kept: the registers, with RIP at the next instruction
 abbrev pub kept_of : Registers → ℕ → ℕ → Kept
 kept_of r vmcb next_rip = record { registers = record r { rip = next_rip }; vmcb = vmcb }

@@ -5,8 +5,6 @@ use Rattle.svm_model.specs.declared.traps.Combined.{Combined}
 use Rattle.svm_model.specs.declared.traps.Combined.TheVariants.{Deliver, Shutdown}
 use Rattle.svm_model.specs.declared.traps.Trap.{Trap}
 
--- A fault in the delivery of an event (volume 2, 'Double-Fault Exception').
-
 -- #DE and #TS to #GP
 abbrev pub is_contributory : ℕ → Bool
 is_contributory vector = (vector == 0) || (nat_le 10 vector && nat_le vector 13)

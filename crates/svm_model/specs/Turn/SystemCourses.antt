@@ -30,8 +30,6 @@ use Rattle.svm_model.specs.declared.vmcbs.Field.TheVariants as f
 use Rattle.svm_model.specs.declared.windows.OutsideMemory.{OutsideMemory as OutsideAt}
 use Rattle.svm_model.specs.Turn.UserCourses.{raised}
 
--- System rows: the faults that come first, the intercept, the accesses, and what is left.
-
 abbrev pub on_system : Doing → List PlannedAccess → List ℕ → (Result Came Stop → Course) → Result Systemic Trap → Course
 on_system d plan numbers next (Ok s) = with_outside d plan numbers s.state.results s.state.registers s.outside next
 on_system d plan numbers next (Err trap) = next (raised trap)
