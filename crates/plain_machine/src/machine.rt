@@ -395,8 +395,7 @@ impl PlainMachine {
         ensures answer { result ≡ true }
         ensures world { IsWellFormed self.now.world }
     {
-        let _ = self.event;
-        true
+        self.window.size % 4096 == 0
     }
 
     /// Whether the machine is stopped, since the bus refused what an event handed it. It then takes no event.
