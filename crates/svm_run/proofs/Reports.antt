@@ -1,7 +1,7 @@
 -- The report of a world of one guest with one vcpu.
 use Rattle.std.proofs.Common.{◌≡◌, ◌∙◌, ℕ, Bool, true, false, if◌then◌else◌, Option, Some, List, [], ◌∷◌, ◌++◌, length, map, ap, refl, arith, is_some, slice_get, append_assoc, append-nil}
 use Rattle.std.specs.Option.{option_map}
-use Rattle.svm_model.specs.Machine.Bus.{Bus}
+use Rattle.svm_model.specs.Machine.Bus.{Bus, Device}
 use Rattle.svm_model.specs.Machine.Guest.{Guest, level_in}
 use Rattle.svm_model.specs.Formats.Text.{report, events_line, guest_line, vcpu_line, out_lines, guest_lines, vcpu_lines}
 use Rattle.svm_model.specs.Machine.Shapes.{Shape, world_shape, single}
@@ -11,7 +11,7 @@ use Rattle.svm_model.specs.declared.ports.PortWrite.{PortWrite}
 use Rattle.svm_model.specs.declared.register_file.Registers.{Registers}
 use Rattle.svm_model.specs.declared.vcpus.Vcpu.{Vcpu}
 use Rattle.plain_machine.specs.Single.{first_id, guest_in, vcpu_in, vcpu_of}
-use Rattle.svm_run.specs.Outcome.{has_ended}
+use Rattle.svm_run.specs.Outcome.{has_ended, outcome_after}
 
 counts : (w : World) → world_shape w ≡ single → map (λ (g : Guest). length g.vcpus) w.guests ≡ 1 ∷ []
 counts w h = ap (λ (s : Shape). s.vcpus) h
@@ -62,6 +62,12 @@ unfolding report
 report_of_parts w bus e level halted r h s l t u =
     grouped (events_line w.event) (guest_line 0 e) (vcpu_line 0 0 level halted r) (out_lines 0 bus.output)
     ∙ ap (λ lines. events_line w.event ++ lines) (guest_report w.guests bus.output e level halted r (counts w h) s l t u)
+
+-- the report of a world beside a bus with this output
+pub report_of_bus : (w : World) (bus : Bus) (output : List PortWrite) (text : List ℕ) → output ≡ bus.output →
+    ((devices : List (Option Device)) → text ≡ report w (record { devices = devices; output = output })) → text ≡ (outcome_after (record { world = w; bus = bus })).text
+unfolding outcome_after
+report_of_bus w bus output text e h = h bus.devices ∙ ap (λ (o : List PortWrite). report w (record { devices = bus.devices; output = o })) e
 
 pub pieces : (text a b c d k l m n : List ℕ) → text ≡ a ++ b ++ c ++ d → a ≡ k → b ≡ l → c ≡ m → d ≡ n → text ≡ k ++ l ++ m ++ n
 pieces text a b c d k l m n h p q r s = rw (← p, ← q, ← r, ← s) h

@@ -3,4 +3,4 @@ use Rattle.svm_run.proofs.open_bus.Given as goal
 
 -- one device for each place so far
 abbrev pub invariant-loop-place : goal.invariant-loop-place
-invariant-loop-place l = length l.devices.items ≡ l._place
+invariant-loop-place g l = length l.devices.items ≡ l._place
