@@ -1,7 +1,7 @@
 -- An APIC that no guest reaches stays as it is.
-use Rattle.std.proofs.Common.{◌≡◌, ℕ, Bool, true, false, List, Option, Some, None, refl}
+use Rattle.std.proofs.Common.{◌≡◌, ℕ, Bool, true, false, None, refl}
 use Rattle.std.specs.Prelude.{◌&&◌, if◌then◌else◌, nat_le}
-use Rattle.svm_model.specs.Machine.Apic.{Apic, accepted, expired, first_apic, highest_below, is_accepted, is_due, pending, taken}
+use Rattle.svm_model.specs.Machine.Apic.{Apic, accepted, expired, highest_below, is_due, pending, taken}
 use Rattle.plain_machine.specs.Single.{idle_apic}
 
 -- nothing is pending

@@ -5,7 +5,7 @@ use Rattle.svm_model.specs.Machine.Bus.{Bus}
 use Rattle.svm_model.specs.Turn.Control.{space_of}
 use Rattle.svm_model.specs.Turn.Course.{Board, Told, Turned, Way}
 use Rattle.svm_model.specs.Turn.Play.{play}
-use Rattle.svm_model.specs.Machine.Apic.{Apic, pending}
+use Rattle.svm_model.specs.Machine.Apic.{pending}
 use Rattle.svm_model.specs.Machine.Notices.{exited}
 use Rattle.svm_model.specs.Machine.PlainTurn.{settled, turned, turned_in, turned_under, way_of}
 use Rattle.svm_model.specs.Turn.Work.{turn_course}

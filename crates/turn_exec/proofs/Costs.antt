@@ -1,5 +1,5 @@
 -- What a turn's calls may cost.
-use Rattle.std.proofs.Common.{◌≡◌, ◌≤◌, ◌+◌, ◌*◌, ℕ, arith, subst}
+use Rattle.std.proofs.Common.{◌≡◌, ◌≤◌, ◌+◌, ◌*◌, ℕ, arith}
 
 -- one call more
 dear : (cost n : ℕ) → cost * (n + 1) ≡ cost * n + cost

@@ -1,9 +1,9 @@
 -- What playing a course over a guest's memory leads to.
-use Rattle.std.specs.Prelude.{◌≡◌, ◌≤◌, ℕ, List, Bool, true, false, Option, Some, None}
+use Rattle.std.specs.Prelude.{◌≡◌, ◌≤◌, ℕ, List, Bool, Option, Some, None}
 use Rattle.svm_model.specs.Machine.Apic.{Apic}
 use Rattle.svm_model.specs.Machine.Bus.{Bus}
 use Rattle.svm_model.specs.Memory.Bytes.{SameOutside, guest_of}
-use Rattle.svm_model.specs.Turn.Course.{Board, Course, Told, Way}
+use Rattle.svm_model.specs.Turn.Course.{Board, Course, Told}
 use Rattle.svm_model.specs.Turn.Play.{play}
 use Rattle.svm_model.specs.declared.apics.Ipi.{Ipi}
 use Rattle.svm_model.specs.declared.names.RunEnd.{RunEnd}

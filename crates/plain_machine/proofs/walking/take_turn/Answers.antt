@@ -1,6 +1,6 @@
 -- The turn of the executor is the plain turn.
-use Rattle.std.proofs.Common.{◌≡◌, ◌∙◌, [], refl, sym, rules}
-use Rattle.plain_machine.proofs.Turning.{Taken, needs_nothing, turn-taken}
+use Rattle.std.proofs.Common.{[], rules}
+use Rattle.plain_machine.proofs.Turning.{needs_nothing, turn-taken}
 use Rattle.plain_machine.proofs.walking.take_turn.Goals as goal
 
 pub returns-clause-turned : goal.returns-clause-turned
