@@ -7,9 +7,9 @@ use Rattle.std.proofs.lemmas.Bool.{ltb-false, leb-true, and_parts}
 use Rattle.std.proofs.lemmas.List.{length-take}
 use Rattle.std.proofs.lemmas.List.Elements.{All-from_recursion}
 use Rattle.svm_model.specs.Formats.Image.{Image, ImageGuest, ImageFault}
-use Rattle.svm_model.specs.Formats.ImageBytes.{segment_in, many_in, guest_in, image_in, image_limit, image_of, IsLawfulStart, IsLawfulVcpu}
+use Rattle.svm_model.specs.Formats.ImageBytes.{segment_in, many_in, guest_in, image_in, image_limit, image_of, IsLawfulVcpu}
 use Rattle.svm_model.specs.Formats.ImageFields.{Source, ◌>>=◌, bytes_in, number_in, judged, bounded, zero_in, zeros_in, magic_in, root_in, linear_in, flags_in, is_root, are_flags}
-use Rattle.svm_model.specs.Formats.ImageVcpus.{table_register, start_tr, start_registers, vcpu_in}
+use Rattle.svm_model.specs.Formats.ImageVcpus.{table_register, start_tr, vcpu_in}
 use Rattle.svm_model.specs.Formats.LawfulImages.{IsLawfulSegment, IsLawfulGuest, IsLawfulImage}
 use Rattle.svm_model.specs.Memory.RegisterFile.{is_canonical}
 use Rattle.svm_model.specs.declared.register_file.Registers.{Registers}

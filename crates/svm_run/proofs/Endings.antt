@@ -1,5 +1,5 @@
 -- How the runs of a job end, by what ended them.
-use Rattle.std.proofs.Common.{◌≡◌, ◌∙◌, ℕ, ◌≤◌, ◌<◌, ◌==◌, Bool, true, false, List, [], Option, Some, None, Result, Ok, Err, IfSome, length, slice_get, take, ap, refl, sym, subst, arith}
+use Rattle.std.proofs.Common.{◌≡◌, ◌∙◌, ℕ, ◌<◌, ◌==◌, true, false, List, [], Option, Some, None, Result, Ok, Err, IfSome, length, slice_get, take, ap, refl, sym, subst, arith}
 use Rattle.std.proofs.lemmas.Bool.Decides.{nat_tests}
 use Rattle.byte_shelf.specs.Shelf.{Files}
 use Rattle.byte_shelf.specs.Sink.{appended}
@@ -8,9 +8,8 @@ use Rattle.svm_model.specs.Formats.Image.{Image}
 use Rattle.svm_model.specs.Formats.Script.{Script, events_of}
 use Rattle.svm_model.specs.Machine.Runs.{Led, plain_run}
 use Rattle.svm_model.specs.Machine.World.{World, world_of}
-use Rattle.svm_model.specs.declared.names.Event.{Event}
-use Rattle.svm_run.specs.Answers.{Ends, EndsRun, EndsUnrun, HandsOverIt, IsCutAt, IsOfReading, IsReached, IsRefusedAt, Receives, ReceivesLine}
-use Rattle.svm_run.specs.Jobs.{Job, job, job_with_names, image_in, script_in}
+use Rattle.svm_run.specs.Answers.{Ends, EndsRun, HandsOverIt, IsCutAt, IsOfReading, IsReached, IsRefusedAt, Receives, ReceivesLine}
+use Rattle.svm_run.specs.Jobs.{Job, job, job_with_names}
 use Rattle.svm_run.specs.Outcome.{completed, outcome_after, led_until, text_until}
 use Rattle.svm_run.specs.StatusLine.{status_line}
 use Rattle.svm_run.specs.Statuses.{Meaning, Blame, FirstEvents, NotAllEvents, TextThenLine, PartThenLine, meaning, meaning_of}

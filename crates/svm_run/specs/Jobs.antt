@@ -1,6 +1,6 @@
 -- What words over the told files name: a job, which is an image and a script for it, or a status that ends the program
 -- before any event. The order of refusals is the order of the cases.
-use Rattle.std.specs.Prelude.{ℕ, List, Bool, true, false, if◌then◌else◌, Option, Some, None, Result, Ok, Err}
+use Rattle.std.specs.Prelude.{ℕ, List, true, false, if◌then◌else◌, Option, Some, None, Result, Ok, Err}
 use Rattle.byte_shelf.specs.Shelf.{Files, file_of, whole_file}
 use Rattle.byte_shelf.specs.declared.answers.ReadAll.{ReadAll}
 use Rattle.byte_shelf.specs.declared.answers.ReadAll.TheVariants.{Missing as NoFile, Failed, TooLong as TooManyBytes, NoMemory as NoRoom}
