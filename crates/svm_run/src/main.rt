@@ -65,22 +65,8 @@ fn open(rt: &HostRuntime, words: &Vec<String>) -> Result<Status, AllocError> {
     run::<Brand, Brand>(rt, &words, Blank::new(1), Blank::new(1))
 }
 
-/// Makes the bus of fifteen devices in memory, which never fail, and one over a file.
-fn open_bus(rt: &HostRuntime) -> Result<Bus, AllocError> {
-    let alloc = rt.alloc();
-    let mut devices: Vec<Box<dyn PortDevice>> = Vec::new(alloc);
-    for _place in 0..FILE_DEVICE {
-        devices.push(Box::new(alloc, MemoryDevice::new(alloc, Vec::new(alloc)))?)?;
-    }
-    let name = String::from_str(alloc, DEVICE_FILE)?;
-    devices.push(Box::new(alloc, FileDevice::new(rt.clone()?, alloc, name))?)?;
-    match Bus::new(alloc, devices) {
-        Ok(bus) => Ok(bus),
-        Err(_) => Err(AllocError),
-    }
-}
-
-/// Makes the counters of reads and of entries and the real objects, and does the job.
+/// Makes the counters of reads and of entries, the bus of fifteen devices in memory, which never fail, and one over a file,
+/// and the real objects, and does the job.
 fn run<L: Ledger, M: Ledger>(
     rt: &HostRuntime,
     words: &[&str],
@@ -94,13 +80,22 @@ fn run<L: Ledger, M: Ledger>(
     requires entry_parts { entries.parts ≡ M.parts }
     requires entry_some { 0 < entries.parts }
 {
-    let mut bus = open_bus(rt)?;
+    let alloc = rt.alloc();
+    let mut devices: Vec<Box<dyn PortDevice>> = Vec::new(alloc);
+    for _place in 0..FILE_DEVICE {
+        devices.push(Box::new(alloc, MemoryDevice::new(alloc, Vec::new(alloc)))?)?;
+    }
+    let name = String::from_str(alloc, DEVICE_FILE)?;
+    devices.push(Box::new(alloc, FileDevice::new(rt.clone()?, alloc, name))?)?;
+    let Ok(mut bus) = Bus::new(alloc, devices) else {
+        return Ok(Status::NoMemory);
+    };
     let mut shelf = FileShelf::new(rt.clone()?);
     let mut sink = StdSink::new(rt.clone()?);
     let mut steps = counted_from::<L>(reads);
     let mut entries = counted_from::<M>(entries);
     Ok(svm_run(
-        rt.alloc(),
+        alloc,
         words,
         &mut shelf,
         &mut bus,

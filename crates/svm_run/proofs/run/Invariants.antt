@@ -1,5 +1,5 @@
 use Rattle.std.proofs.Common.{◌≡◌, length}
-use Rattle.svm_run.proofs.open_bus.Given as goal
+use Rattle.svm_run.proofs.run.Given as goal
 
 -- one device for each place so far
 abbrev pub invariant-loop-place : goal.invariant-loop-place
