@@ -1,7 +1,7 @@
 """Runs an image and a script by the definitions of a model, and prints what they say.
 
 The definitions read the image and the script, make of each event what it does, and say the report. What they do not say yet
-stands here: dump lines, the blocks of a trace, and, for as long as they refuse them, images of version 2, which have a word of
+stands here: the blocks of a trace, and, for as long as they refuse them, images of version 2, which have a word of
 features in place of the header's zero, and script lines with one of EARLY_WORDS."""
 
 from itertools import compress, count
@@ -11,7 +11,7 @@ from paged_bytes import PAGE, PagedBytes
 from translation import Model, Program
 
 DEVICES = 16
-EARLY_WORDS = (b"each", b"irq", b"nmi", b"dump")
+EARLY_WORDS = (b"each", b"irq", b"nmi")
 FLUSH_BY_ASID = 1  # the bit of the features that an image of version 2 may set
 
 
@@ -137,19 +137,11 @@ def early_line(event, words, image):
         return [event("Irq", vcpu_id(numbers[0], numbers[1], image), numbers[2])]
     if word == b"nmi" and len(numbers) == 2:
         return [event("Nmi", vcpu_id(numbers[0], numbers[1], image))]
-    if word == b"dump" and len(numbers) == 3 and 1 <= numbers[2] <= 256:
-        within_memory(image["guests"][numbers[0]], numbers[1] + numbers[2])
-        return [event("Dump", {"0": numbers[0]}, numbers[1], numbers[2])]
     raise ValueError(words)
 
 
 def number_of(word):
     return int(word, 16) if word[:2] == b"0x" else int(word)
-
-
-def within_memory(guest, end):
-    if end > PAGE * guest["pages"]:
-        raise ValueError(end)
 
 
 def vcpu_id(guest, index, image):
@@ -180,8 +172,9 @@ class Step:
         if variant_name(self.event) != "Dump":
             return ""
         _, guest, address, length = self.event
-        shown = bytes(self.world["guests"][guest["0"]]["memory"][address : address + length])
-        return f"dump event={self.before['event']} guest={guest['0']} at={address:x} bytes={shown.hex()}\n"
+        shown = list(self.before["guests"][guest["0"]]["memory"][address : address + length])
+        line = self.definitions.word("Formats.Text.dump_line")
+        return text(line(self.before["event"], guest["0"], address, shown))
 
     def block(self):
         """The lines of a trace: the event, the vcpu that ran, what memory changed, what went out, and an end."""

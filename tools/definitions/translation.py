@@ -45,8 +45,9 @@ class Model:
             raise SystemExit(f"{folder}/specs has no definitions")
 
     def module_of(self, word):
-        """The module that defines a word which stands in one module alone."""
-        homes = [module for module in self.modules.values() if word in module.file.definitions]
+        """The module that defines a word which stands in one module alone, or in the one that is named before it."""
+        place, _, name = word.rpartition(".")
+        homes = [module for module in self.modules.values() if name in module.file.definitions and place in ("", module.name)]
         if len(homes) != 1:
             raise SystemExit(f"{self.folder}: {len(homes)} modules define {word}, which a run asks for")
         return homes[0]
@@ -141,9 +142,9 @@ class Program:
         self.waiting = []
 
     def word(self, name):
-        """The definition that is named so in one module of the model, as a function."""
+        """The definition that is named so in one module of the model, as a function; `MODULE.WORD` names the module too."""
         module = self.model.module_of(name)
-        function = self.ask(module, module.file.definitions[name])
+        function = self.ask(module, module.file.definitions[name.rpartition(".")[2]])
         while self.waiting:
             self.translate(*self.waiting.pop())
         return self.space[function]

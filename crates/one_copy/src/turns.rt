@@ -13,12 +13,12 @@ use host_memory::{GuestWindow, HostMemory, Steps};
 use port_bus::Ports;
 use std::sync::ledger::Ledger;
 use svm_model::{Facts, Outer, Space, Vcpu};
-use turn_exec::{Alone, Apics, SystemRows, Translator, TurnEnd};
+use turn_exec::{Alone, Apics, Translator, TurnEnd};
 
 /// The turn of a vcpu in L1, for which the copy is dropped first, where its APIC gives no vector. At most 896 reads are
 /// counted. Where the rule is kept within the turn, memory, what stands about the vcpu, the vcpu and the answer are those of
 /// the turn that walks for each access.
-pub fn take_turn<B: Ports, A: Apics, R: SystemRows, L: Ledger>(
+pub fn take_turn<B: Ports, A: Apics, L: Ledger>(
     copy: &mut OneCopy,
     memory: &mut HostMemory,
     window: GuestWindow,
@@ -26,7 +26,6 @@ pub fn take_turn<B: Ports, A: Apics, R: SystemRows, L: Ledger>(
     bus: &mut B,
     apics: &mut A,
     facts: &Facts,
-    rows: &R,
     vcpu: &mut Vcpu,
     steps: &mut Steps<L>,
 ) -> TurnEnd
@@ -34,9 +33,9 @@ pub fn take_turn<B: Ports, A: Apics, R: SystemRows, L: Ledger>(
     requires pages { window.size % 4096 ≡ 0 }
     requires some { 4096 ≤ window.size }
     requires direct { space.now.outer ≡ Outer.Direct }
-    ensures follows { Ensues (⟦<OneCopy as Translator>⟧.stands) true keeps (play (record { space = space.now; refused = refused_at result.refused result.calls }) (board_with (B.bus bus.old) (A.apic apics.old) (A.sent apics.old) 0 None) (guest_of window memory.old.bytes) []
+    ensures follows { Ensues (⟦<OneCopy as Translator>⟧.stands) true keeps (play (record { space = space.now; refused = refused_at result.refused result.calls }) (board_with (B.bus bus.old) (A.apic apics.old) (A.sent apics.old) 0 None None) (guest_of window memory.old.bytes) []
         (turn_course None facts.now vcpu.old None))
-        [] copy.new (guest_of window memory.new.bytes) (board_with (B.bus bus.new) (A.apic apics.new) (A.sent apics.new) result.calls result.denied) vcpu.new result.stepped }
+        [] copy.new (guest_of window memory.new.bytes) (board_with (B.bus bus.new) (A.apic apics.new) (A.sent apics.new) result.calls result.refused result.denied) vcpu.new result.stepped }
     ensures others { SameOutside window memory.old.bytes memory.new.bytes }
     ensures none_fell { NoneFell (B.faults bus.old) (B.faults bus.new) }
     ensures blamed { IsBlamed result.refused (B.faults bus.old) (B.faults bus.new) }
@@ -44,6 +43,6 @@ pub fn take_turn<B: Ports, A: Apics, R: SystemRows, L: Ledger>(
 {
     copy.drop_copy();
     turn_exec::take_turn(
-        copy, memory, window, space, bus, apics, &Alone, facts, rows, vcpu, None, steps,
+        copy, memory, window, space, bus, apics, &Alone, facts, vcpu, None, steps,
     )
 }

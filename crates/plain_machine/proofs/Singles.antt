@@ -1,7 +1,7 @@
 -- Worlds of one guest, one vcpu and one processor: every name is the first.
 use Rattle.std.proofs.Common.{◌≡◌, ℕ, zero, suc, ◌<◌, [], ◌∷◌, Option, Some, refl, arith, map, slice_get, slice_set}
 use Rattle.svm_model.specs.Machine.Events.{without}
-use Rattle.svm_model.specs.Machine.Shapes.{single, IsVcpu}
+use Rattle.svm_model.specs.Machine.Shapes.{Shape, IsVcpu}
 use Rattle.svm_model.specs.declared.names.VcpuId.{VcpuId}
 use Rattle.plain_machine.specs.Single.{first_id}
 
@@ -12,8 +12,12 @@ only_guest : (guest count : ℕ) → slice_get (1 ∷ []) guest ≡ Some count �
 only_guest zero count e = (refl, (cc))
 only_guest (suc guest) count e = absurd (cc)
 
+-- one processor, and one guest with one vcpu; its memory does not count
+abbrev pub one_vcpu : Shape
+one_vcpu = record { cpus = 1; vcpus = 1 ∷ []; sizes = [] }
+
 -- a vcpu of a single world is the first
-pub first_vcpu_id : (id : VcpuId) → IsVcpu single id → id ≡ first_id
+pub first_vcpu_id : (id : VcpuId) → IsVcpu one_vcpu id → id ≡ first_id
 first_vcpu_id id h =
     let only = only_guest id.guest.0 h.0 h.1 in
     id_of id.guest.0 id.index only.0 (omega (arith, h.2, only.1))

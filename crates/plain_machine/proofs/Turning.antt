@@ -1,6 +1,6 @@
 -- The turn of the one vcpu of a world.
-use Rattle.std.proofs.Common.{◌≡◌, ◌∙◌, ℕ, Bool, true, false, is_some, List, [], ◌∷◌, Option, Some, None, ap, sym, refl, subst, slice_get}
-use Rattle.svm_model.proofs.LastLemmas.{turn-denied, turn-outside}
+use Rattle.std.proofs.Common.{◌≡◌, ◌∙◌, ℕ, Bool, true, false, is_some, IfSome, List, [], ◌∷◌, Option, Some, None, ap, sym, refl, subst, slice_get}
+use Rattle.svm_model.proofs.LastPlays.{DeniesLast, turn-denied, turn-outside}
 use Rattle.svm_model.specs.Machine.Bus.{Bus}
 use Rattle.svm_model.specs.Turn.Control.{space_of}
 use Rattle.svm_model.specs.Turn.Course.{Board, Told, Turned, Way}
@@ -9,12 +9,13 @@ use Rattle.svm_model.specs.Machine.Apic.{pending}
 use Rattle.svm_model.specs.Machine.Notices.{exited}
 use Rattle.svm_model.specs.Machine.PlainTurn.{settled, turned, turned_in, turned_under, way_of}
 use Rattle.svm_model.specs.Turn.Work.{turn_course}
-use Rattle.svm_model.specs.Machine.Runs.{HandsOverOf, IsOut}
+use Rattle.svm_model.specs.Machine.Runs.{HandsOverOf, IsOut, IsOutOf}
 use Rattle.svm_model.specs.Machine.Turns.{Turn, board_of, end_by, turn_done, turn_of}
 use Rattle.svm_model.specs.Machine.World.{World}
 use Rattle.svm_model.specs.declared.names.CpuId.{CpuId}
 use Rattle.svm_model.specs.declared.names.Event.TheVariants.{Run}
 use Rattle.svm_model.specs.declared.exits.Exit.{Exit}
+use Rattle.svm_model.specs.declared.names.RunEnd.{RunEnd}
 use Rattle.svm_model.specs.declared.names.VcpuId.{VcpuId}
 use Rattle.svm_model.specs.declared.ports.PortWrite.{PortWrite}
 use Rattle.svm_model.specs.declared.traps.Trap.{Trap}
@@ -25,10 +26,10 @@ use Rattle.svm_model.specs.declared.turns.Stepped.TheVariants.{Went, Leaves, Mov
 use Rattle.svm_model.specs.declared.vcpus.Inside.{Inside}
 use Rattle.svm_model.specs.declared.vcpus.Vcpu.{Vcpu}
 use Rattle.turn_exec.specs.Follows.{Needs}
-use Rattle.turn_exec.specs.Plays.{board_with}
+use Rattle.turn_exec.specs.Plays.{board_with, refused_at}
 use Rattle.plain_machine.proofs.Idle.{pending-idle}
 use Rattle.plain_machine.specs.Single.{first_id, idle_apic, single_world}
-use Rattle.plain_machine.specs.Turning.{Gives, facts_in, settled_to}
+use Rattle.plain_machine.specs.Turning.{Gives, GrantsLast, facts_in, settled_to}
 
 abbrev made : List ℕ → Board → Vcpu → Stepped → List Told → Turned
 made memory board vcpu stepped told = record { memory = memory; board = board; vcpu = vcpu; stepped = stepped; told = told }
@@ -70,11 +71,12 @@ turned-played refused facts bus tpr memory vcpu e out =
     ∙ ap (λ (x : Turned). settled way None facts x x.stepped) (under-idle refused facts bus tpr memory vcpu (pending (idle_apic tpr)) (pending-idle tpr))
     ∙ settled-outside way facts t.memory t.board t.vcpu t.stepped t.told out
 
-abbrev single_turn : ℕ → ℕ → Option VcpuId → ℕ → List ℕ → Bus → ℕ → Option PortWrite → Vcpu → Stepped → List Told → Turn
-single_turn version features placed event memory bus tpr denied vcpu stepped told = record {
+abbrev single_turn : ℕ → ℕ → Option VcpuId → ℕ → List ℕ → Bus → ℕ → ℕ → Option PortWrite → Vcpu → Stepped → List Told → Turn
+single_turn version features placed event memory bus tpr calls denied vcpu stepped told = record {
   world = single_world version features memory (end_by 0 event stepped) vcpu tpr placed event;
   bus = bus;
   ended = end_by 0 event stepped;
+  calls = calls;
   denied = denied;
   told = told;
 }
@@ -96,18 +98,35 @@ turn_made version features memory vcpu tpr placed event t =
     }) first_id t
 
 -- where the turn of its vcpu gives these, the world's turn gives the world of them
-pub turn-single : (refused : Option ℕ) (version features : ℕ) (memory : List ℕ) (vcpu : Vcpu) (tpr : ℕ) (placed : Option VcpuId) (event : ℕ) (bus : Bus) (new : List ℕ) (now : Bus) (new_tpr calls : ℕ) (denied : Option PortWrite) (after : Vcpu) (stepped : Stepped) →
-    Gives (turned refused (facts_in event features vcpu tpr) (board_of bus (idle_apic tpr)) memory vcpu) new (board_with now (idle_apic new_tpr) None calls denied) after stepped →
+pub turn-single : (refused : Option ℕ) (version features : ℕ) (memory : List ℕ) (vcpu : Vcpu) (tpr : ℕ) (placed : Option VcpuId) (event : ℕ) (bus : Bus) (new : List ℕ) (now : Bus) (new_tpr calls : ℕ) (end : Option RunEnd) (denied : Option PortWrite) (after : Vcpu) (stepped : Stepped) →
+    Gives (turned refused (facts_in event features vcpu) (board_of bus (idle_apic tpr)) memory vcpu) new (board_with now (idle_apic new_tpr) None calls end denied) after stepped →
     turn_of refused (single_world version features memory None vcpu tpr placed event) bus first_id ≡
-    single_turn version features placed event new now new_tpr denied after stepped (turned refused (facts_in event features vcpu tpr) (board_of bus (idle_apic tpr)) memory vcpu).told
-turn-single refused version features memory vcpu tpr placed event bus new now new_tpr calls denied after stepped g =
-    ap (turn_made version features memory vcpu tpr placed event) (made-is _ new (board_with now (idle_apic new_tpr) None calls denied) after stepped g)
+    single_turn version features placed event new now new_tpr calls denied after stepped (turned refused (facts_in event features vcpu) (board_of bus (idle_apic tpr)) memory vcpu).told
+turn-single refused version features memory vcpu tpr placed event bus new now new_tpr calls end denied after stepped g =
+    ap (turn_made version features memory vcpu tpr placed event) (made-is _ new (board_with now (idle_apic new_tpr) None calls end denied) after stepped g)
 
 -- what the executor's turn gives
 pub record Taken (refused : Option ℕ) (facts : Facts) (bus : Bus) (tpr : ℕ) (memory : List ℕ) (vcpu : Vcpu) (new : List ℕ) (board : Board) (after : Vcpu) (stepped : Stepped) : Type 0 where
   pub turned_to : Gives (turned refused facts (board_of bus (idle_apic tpr)) memory vcpu) new board after (settled_to stepped)
   pub outside : after.inside ≡ None
-  pub kept : (write : PortWrite) → board.denied ≡ Some write → board.bus ≡ bus
+  pub out : (call : ℕ) (write : PortWrite) → refused ≡ Some call → board.denied ≡ Some write → (board.bus ≡ bus) × GrantsLast call bus write (turned None facts (board_of bus (idle_apic tpr)) memory vcpu)
+
+out-played : (refused : Option ℕ) (facts : Facts) (bus : Bus) (tpr : ℕ) (memory : List ℕ) (vcpu : Vcpu) (call : ℕ) (write : PortWrite) → refused ≡ Some call → (played refused facts bus tpr memory vcpu).board.denied ≡ Some write →
+    DeniesLast call bus write (played refused facts bus tpr memory vcpu).board (played None facts bus tpr memory vcpu).board
+out-played refused facts bus tpr memory vcpu call write e s =
+    let is_out : Option ℕ → Type 0 = λ o. (played o facts bus tpr memory vcpu).board.denied ≡ Some write → DeniesLast call bus write (played o facts bus tpr memory vcpu).board (played None facts bus tpr memory vcpu).board in
+    subst is_out (sym e) (λ t. turn-denied (space_of None vcpu) call (board_of bus (idle_apic tpr)) memory None facts vcpu None write refl refl t) s
+
+-- in the turn in which nothing is refused
+grants-last : (facts : Facts) (bus : Bus) (tpr : ℕ) (memory : List ℕ) (vcpu : Vcpu) (call : ℕ) (write : PortWrite) (refused : Board) → vcpu.inside ≡ None → DeniesLast call bus write refused (played None facts bus tpr memory vcpu).board →
+    GrantsLast call bus write (turned None facts (board_of bus (idle_apic tpr)) memory vcpu)
+grants-last facts bus tpr memory vcpu call write refused e d =
+    let way : Way = record { space = space_of None vcpu; refused = None } in
+    let whole = turned-played None facts bus tpr memory vcpu e (turn-outside way (board_of bus (idle_apic tpr)) memory facts vcpu None e) in
+    record {
+      granted = ap (λ (x : Turned). x.board.bus) whole ∙ d.granted;
+      last = ap (λ (x : Turned). x.board.calls) whole ∙ d.last;
+    }
 
 pub turn-taken : (refused : Option ℕ) (facts : Facts) (bus : Bus) (tpr : ℕ) (memory : List ℕ) (vcpu : Vcpu) (space : Space) (new : List ℕ) (board : Board) (after : Vcpu) (stepped : Stepped) →
     space ≡ space_of None vcpu → vcpu.inside ≡ None →
@@ -133,26 +152,39 @@ turn-taken refused facts bus tpr memory vcpu space new board after stepped same 
         stepped_is = ap (λ (x : Turned). x.stepped) whole ∙ sym (ap settled_to stepped_is);
       };
       outside = ap (λ (v : Vcpu). v.inside) vcpu_is ∙ out;
-      kept = λ write denied.
-          ap (λ (b : Board). b.bus) board_is
-          ∙ turn-denied way (board_of bus (idle_apic tpr)) memory facts vcpu None write e refl (sym (ap (λ (b : Board). b.denied) board_is) ∙ denied);
+      out = λ call write is denied.
+          let last = out-played refused facts bus tpr memory vcpu call write is (sym (ap (λ (b : Board). b.denied) board_is) ∙ denied) in
+          (ap (λ (b : Board). b.bus) board_is ∙ last.kept, grants-last facts bus tpr memory vcpu call write _ e last);
     }
 
 pub needs_nothing : (kept : Bool) → Needs false kept
 needs_nothing kept e = absurd (cc)
 
--- a write that was refused
-some_of : (o : Option PortWrite) → is_some o ≡ true → (write : PortWrite) × (o ≡ Some write)
-some_of None e = absurd (cc)
-some_of (Some write) e = (write, refl)
+pub IfSome-of : {X : Type 0} (P : X → Type 0) (o : Option X) → ((x : X) → o ≡ Some x → P x) → IfSome o P
+IfSome-of P None h = tt
+IfSome-of P (Some x) h = h x refl
 
-pub out_of : (denied write : Option PortWrite) → denied ≡ write → is_some write ≡ true → (w : PortWrite) × (denied ≡ Some w)
-out_of denied write e h = let some = some_of write h in (some.0, e ∙ some.1)
+-- the turn that was cut off denies its write, which is the last call of the one in which nothing is refused
+pub out-single : (version features : ℕ) (memory : List ℕ) (vcpu : Vcpu) (tpr : ℕ) (placed : Option VcpuId) (event : ℕ) (bus : Bus) (new : List ℕ) (now : Bus) (new_tpr calls : ℕ) (end : Option RunEnd) (denied : Option PortWrite) (after : Vcpu) (stepped : Stepped) →
+    Gives (turned (Some calls) (facts_in event features vcpu) (board_of bus (idle_apic tpr)) memory vcpu) new (board_with now (idle_apic new_tpr) None calls end denied) after stepped →
+    is_some denied ≡ true → IfSome denied (λ write. GrantsLast calls bus write (turned None (facts_in event features vcpu) (board_of bus (idle_apic tpr)) memory vcpu)) →
+    IsOut calls (single_world version features memory None vcpu tpr placed event) bus first_id
+out-single version features memory vcpu tpr placed event bus new now new_tpr calls end None after stepped g some last = absurd (cc)
+out-single version features memory vcpu tpr placed event bus new now new_tpr calls end (Some write) after stepped g some last = record {
+  write = write;
+  denied = ap (λ (t : Turn). t.denied) (turn-single (Some calls) version features memory vcpu tpr placed event bus new now new_tpr calls end (Some write) after stepped g);
+  granted = last.granted;
+  last = last.last;
+}
+
+-- where a write was refused the number of its call is told
+pub refused_by : (refused : Option RunEnd) (denied : Option PortWrite) (write : PortWrite) (calls : ℕ) → is_some refused ≡ is_some denied → denied ≡ Some write → refused_at refused calls ≡ Some calls
+refused_by None denied write calls e s = absurd (cc)
+refused_by (Some end) denied write calls e s = refl
 
 -- the write of the vcpu that is placed on the processor
-pub handed : (call : ℕ) (w : World) (bus : Bus) (cpu : CpuId) (o : Option VcpuId) (id : VcpuId) (write : Option PortWrite) →
-    slice_get w.placing cpu.0 ≡ Some o → o ≡ Some id → id ≡ first_id → (turn_of (Some call) w bus first_id).denied ≡ write → is_some write ≡ true → HandsOverOf call w bus (Run cpu)
+pub handed : (call : ℕ) (w : World) (bus : Bus) (cpu : CpuId) (o : Option VcpuId) (id : VcpuId) → slice_get w.placing cpu.0 ≡ Some o → o ≡ Some id → id ≡ first_id → IsOut call w bus first_id → HandsOverOf call w bus (Run cpu)
 unfolding HandsOverOf
-handed call w bus cpu o id write placed there first denied some =
+handed call w bus cpu o id placed there first out =
     let whole : slice_get w.placing cpu.0 ≡ Some (Some first_id) = placed ∙ ap (λ (x : Option VcpuId). Some x) (there ∙ ap (λ (x : VcpuId). Some x) first) in
-    subst (λ (x : Option (Option VcpuId)). IsOut call w bus x) (sym whole) (out_of _ _ denied some)
+    subst (λ (x : Option (Option VcpuId)). IsOutOf call w bus x) (sym whole) out

@@ -10,7 +10,6 @@
 mod idle_apic;
 mod loading;
 mod machine;
-mod system_rows;
 mod walking;
 
 pub use machine::PlainMachine;

@@ -1,5 +1,5 @@
 // The plain machine: a world of one guest with one vcpu on one processor.
-ghost use Rattle.std.specs.Prelude.{◌≡◌, ℕ, ◌+◌, ◌*◌, ◌%◌, ◌<◌, ◌≤◌, Bool, true, false, Some, None, Err, List, [], ◌∷◌, length, is_err, is_some, OnOk, OnErr, IfOk, IfErr, IfSome, IsTrue, slice_get, drop, take};
+ghost use Rattle.std.specs.Prelude.{◌≡◌, ℕ, ◌+◌, ◌*◌, ◌^◌, ◌%◌, ◌<◌, ◌≤◌, Bool, true, false, Some, None, Err, List, [], ◌∷◌, length, is_err, is_some, OnOk, OnErr, IfOk, IfErr, IfSome, IsTrue, slice_get, drop, take};
 ghost use Rattle.std.specs.Option.{option_map};
 ghost use Rattle.svm_model.specs.Memory.Bytes.{IsWithin, guest_of, byte_at};
 ghost use Rattle.svm_model.specs.Machine.Guest.{level_in};
@@ -11,6 +11,7 @@ ghost use Rattle.svm_model.specs.Machine.Shapes.{world_shape, image_shape, is_of
 ghost use Rattle.svm_model.specs.Machine.Turns.{end_by, plain_turn, turn_of};
 ghost use Rattle.svm_model.specs.Machine.World.{world_of, first_guest, first_vcpu};
 ghost use Rattle.port_bus.specs.Causes.{Blames, NoneFell};
+ghost use Rattle.plain_machine.specs.Reads.{is_run};
 ghost use Rattle.plain_machine.specs.Single.{first_id, vcpu_in, guest_in, single_world};
 ghost use Rattle.plain_machine.specs.Turning.{facts_in};
 
@@ -70,13 +71,11 @@ const NOTHING: Effect = Effect {
     ended: None,
 };
 
-/// What cut an event off: the refusal, the number of the outward call that was refused, and what it was to write, if it was
-/// to write to a port.
+/// What cut an event off: the refusal, and the number of the outward call that was refused.
 #[derive(Clone, Copy)]
 struct Cut {
     end: RunEnd,
     call: u64,
-    write: Option<PortWrite>,
 }
 
 /// The end that came in a turn of the vcpu.
@@ -94,8 +93,8 @@ fn end_by(stepped: Stepped, event: u32) -> Option<Ended>
 }
 
 /// What a turn of the vcpu knows. The time-stamp counter is the event's number and the vcpu's addend.
-fn facts_of(event: u32, features: u32, vcpu: &Vcpu, apic: &IdleApic) -> Facts
-    ensures { result ≡ facts_in event features vcpu.now apic.now.tpr }
+fn facts_of(event: u32, features: u32, vcpu: &Vcpu) -> Facts
+    ensures { result ≡ facts_in event features vcpu.now }
 {
     Facts {
         vcpu: FIRST,
@@ -103,7 +102,7 @@ fn facts_of(event: u32, features: u32, vcpu: &Vcpu, apic: &IdleApic) -> Facts
         tsc: u64::from(event).wrapping_add(vcpu.registers.tsc_add),
         apic_id: 0,
         features,
-        tpr: apic.tpr,
+        tpr: 0,
     }
 }
 
@@ -119,8 +118,7 @@ impl PlainMachine {
         ensures bus { OnOk result (B.bus bus.new ≡ (plain_turn self.old.world (B.bus bus.old) first_id).bus) }
         ensures ended { IfOk result (λ ended. ended ≡ (plain_turn self.old.world (B.bus bus.old) first_id).ended) }
         ensures reached { IfErr result (λ cut. self.new.world ≡ (turn_of (Some cut.call) self.old.world (B.bus bus.old) first_id).world) }
-        ensures denied { IfErr result (λ cut. (turn_of (Some cut.call) self.old.world (B.bus bus.old) first_id).denied ≡ cut.write) }
-        ensures out { IfErr result (λ cut. is_some cut.write ≡ true) }
+        ensures out { IfErr result (λ cut. IsOut cut.call self.old.world (B.bus bus.old) first_id) }
         ensures kept { OnErr result (B.bus bus.new ≡ B.bus bus.old) }
         ensures blamed { IfErr result (λ cut. Blames cut.end (B.faults bus.old) (B.faults bus.new)) }
         ensures none_fell { NoneFell (B.faults bus.old) (B.faults bus.new) }
@@ -133,7 +131,7 @@ impl PlainMachine {
         if self.ended.is_some() {
             return Ok(None);
         }
-        let facts = facts_of(self.event, self.features, &self.vcpu, &self.apic);
+        let facts = facts_of(self.event, self.features, &self.vcpu);
         let turn = take_turn(
             &mut self.memory,
             self.window,
@@ -149,7 +147,6 @@ impl PlainMachine {
             Some(end) => Err(Cut {
                 end,
                 call: turn.calls,
-                write: turn.denied,
             }),
         }
     }
@@ -284,11 +281,7 @@ impl PlainMachine {
                 self.finish_event();
                 Ok(NOTHING)
             }
-            Err(end) => Err(Cut {
-                end,
-                call: 0,
-                write: None,
-            }),
+            Err(end) => Err(Cut { end, call: 0 }),
         }
     }
 
@@ -314,6 +307,7 @@ impl PlainMachine {
         ensures number { OnOk result (self.new.world.event ≡ self.old.world.event + 1) }
         ensures stopped { self.new.stopped ≡ self.old.stopped }
         ensures steps { steps.new ≤ steps.old + 896 }
+        ensures still { is_run event ≡ false → steps.new ≡ steps.old }
         ensures later { steps.old ≤ steps.new }
     {
         match event {
@@ -348,8 +342,8 @@ impl PlainMachine {
 
     /// Does one event of the schedule: places a vcpu, lets the placed vcpu take one turn, feeds a port device or unplugs it, or
     /// hands an interrupt or an NMI to a vcpu. The turn of a guest that was ended does nothing, so an end stays. At most 896
-    /// reads are counted, as many as a turn may spend. The event names what the image and the bus have, fewer than 1,048,576
-    /// events came before it, and the machine is not stopped.
+    /// reads are counted, as many as a turn may spend, and none where no vcpu may take one. The event names what the image and
+    /// the bus have, fewer than 1,048,576 events came before it, and the machine is not stopped.
     ///
     /// Only a feed, or a turn's write to a port, may be refused: the answer is the bus's, which blames a device only where
     /// that counted a fault in this call. The bus is then as it was, and the machine stands where the event had come to when
@@ -376,6 +370,7 @@ impl PlainMachine {
         ensures shape { world_shape self.new.world ≡ world_shape self.old.world }
         ensures number { OnOk result (self.new.world.event ≡ self.old.world.event + 1) }
         ensures steps { steps.new ≤ steps.old + 896 }
+        ensures still { is_run event ≡ false → steps.new ≡ steps.old }
         ensures later { steps.old ≤ steps.new }
     {
         self.ring_timers();
@@ -453,7 +448,7 @@ impl PlainMachine {
     }
 
     /// A byte of the memory of a guest, which the image has to have, by one counted read; or its address, where the guest's
-    /// memory does not have it.
+    /// memory does not have it. That memory has fewer than 2^64 bytes.
     #[tactic(auto, using(crate::proofs::Singles::singles, svm_model::proofs::WindowLemmas::windows))]
     pub fn memory_byte<L: Ledger>(
         &self,
@@ -463,9 +458,12 @@ impl PlainMachine {
     ) -> Result<u8, OutsideMemory>
         requires { guest.0 < length self.now.world.guests }
         ensures byte { IfSome (guest_in self.now.world guest) (λ g. result ≡ byte_at g.memory address) }
+        ensures fits { IfSome (guest_in self.now.world guest) (λ g. length g.memory < 2 ^ 64) }
         ensures steps { steps.new ≡ steps.old + 1 }
     {
         let _ = guest;
+        // The memory's size has 64 bits.
+        let _size = self.window.size;
         let mut bytes = [0; 16];
         self.memory
             .read_guest(self.window, address, 1, &mut bytes, steps)?;

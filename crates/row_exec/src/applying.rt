@@ -1,7 +1,6 @@
 // What applying a row does.
 ghost use Rattle.std.specs.Prelude.{◌≡◌, IsTrue};
 ghost use Rattle.svm_model.specs.Instructions.Operands.{state};
-ghost use Rattle.svm_model.specs.Instructions.Locking.{lock_is_undefined};
 ghost use Rattle.svm_model.specs.Instructions.UserRows.{is_user_row};
 ghost use Rattle.svm_model.specs.Instructions.Apply.{done_op, applied_op, applied, answer_of, state_after, others_of, MovesOn};
 
@@ -24,20 +23,10 @@ use crate::moves::{
 };
 use crate::multiply_rows::{apply_division, apply_multiplication, apply_signed_multiplication};
 use crate::shift_rows::apply_shift;
-use crate::sources::destination;
-use register_file::{is_memory, read_flags};
-use row_table::takes_lock;
+use register_file::read_flags;
+use row_table::lock_is_undefined;
 use svm_model::{Applied, LogicKind, Op, Registers, Row, ShiftKind};
 use vm_names::INVALID_OPCODE;
-
-/// Whether the row has a LOCK prefix where none may stand, which is #UD: its instruction takes none, or its destination
-/// is a register (volume 3, 'Lock Prefix'). Rows other than user rows take none.
-#[tactic(auto, unfolding(svm_model::specs::Instructions::Locking::lock_is_undefined))]
-pub fn lock_is_undefined(row: &Row) -> bool
-    ensures { result ≡ lock_is_undefined row.now }
-{
-    row.lock && !(takes_lock(row) && is_memory(destination(row)))
-}
 
 /// Applies a row that never faults.
 #[tactic(auto, unfolding(svm_model::specs::Instructions::Apply::done_op))]

@@ -3,10 +3,11 @@ ghost use Rattle.std.specs.Prelude.{◌≡◌};
 ghost use Rattle.svm_model.specs.Instructions.Operands.{state};
 ghost use Rattle.svm_model.specs.Instructions.Arithmetic.{adds, subtracts, compares, combines, tests_bits, not_inverts, negates, increments, decrements};
 
-use crate::sources::{destination, destination_value, source_value};
+use crate::sources::{destination_value, source_value};
 use crate::widths::ones;
 use flag_math::{add, logic, sub};
 use register_file::{operand_value, read_flags, write_flags, write_operand, write_rip};
+use row_table::destination;
 use svm_model::{Flags, LogicKind, Registers, Row};
 
 /// ADD, and ADC with CF as the carry.

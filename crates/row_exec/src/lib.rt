@@ -19,9 +19,9 @@ mod shift_rows;
 mod sources;
 mod widths;
 
-pub use applying::{apply, lock_is_undefined};
+pub use applying::apply;
 pub use register_file::write_register;
-pub use row_table::is_user_row;
+pub use row_table::{is_user_row, lock_is_undefined};
 pub use svm_model::{
     Applied, Cause, Flags, Form, Op, Operand, Registers, Row, Segment, Trap, Width,
 };

@@ -5,14 +5,14 @@ ghost use Rattle.svm_model.specs.Instructions.Operands.{state};
 ghost use Rattle.svm_model.specs.Instructions.Moves.{moves, movzx_extends, extended_by_sign, movsx_extends, lea_loads, cmovcc_moves, setcc_sets, half_of, cbw_extends, cwd_spreads_sign};
 
 use crate::conditions::condition_holds;
-use crate::sources::{destination, source_value};
+use crate::sources::source_value;
 use crate::widths::ones;
 use flag_math::is_negative;
 use register_file::{
     ACCUMULATOR, RDX, effective_address, operand_value, read_flags, register_named, write_operand,
     write_rip,
 };
-use row_table::operand_width;
+use row_table::{destination, operand_width};
 use svm_model::{Registers, Row, Width};
 
 /// MOV.

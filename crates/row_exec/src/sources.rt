@@ -1,21 +1,11 @@
 // The destination and the source of a row with two operands, by its form.
 ghost use Rattle.std.specs.Prelude.{◌≡◌, ◌^◌, ◌<◌};
 ghost use Rattle.svm_model.specs.Instructions.Widths.{bits};
-ghost use Rattle.svm_model.specs.Instructions.Sources.{is_reversed, has_immediate, destination, source_operand, destination_value, source_value};
+ghost use Rattle.svm_model.specs.Instructions.Sources.{is_reversed, has_immediate, source_operand, destination_value, source_value};
 
 use register_file::{cut, operand_value, register_named};
-use row_table::{has_immediate, is_reversed};
+use row_table::{destination, has_immediate, is_reversed};
 use svm_model::{Operand, Registers, Row};
-
-pub fn destination(row: &Row) -> Operand
-    ensures { result ≡ destination row.now }
-{
-    if is_reversed(row.form) {
-        register_named(row.register)
-    } else {
-        row.operand
-    }
-}
 
 /// The operand that is the source, where it is no immediate.
 fn source_operand(row: &Row) -> Operand

@@ -5,14 +5,15 @@
 //! and keeps nothing. The forms stand as one list, a line each in the manual's order, in `svm_model`, on which the crate
 //! stands; definitions and code both read it there. What a form is stands there also as a relation between bytes and row
 //! (`specs/Instructions/Spelling.antt`), of which `decode`'s contract speaks too. `plan` lists the data accesses of a row, in order, as
-//! `specs/Instructions/Planning.antt` has them. The other calls look a form up in the columns of the list. The machines use `decode`'s
-//! and `plan`'s clauses.
+//! `specs/Instructions/Planning.antt` has them. `lock_is_undefined` tests a LOCK prefix; the other calls look a form up in
+//! the columns of the list. The machines use `decode`'s and `plan`'s clauses.
 #![tactic(auto)]
 
 mod columns;
 mod decoding;
 mod fields;
 mod input;
+mod locking;
 mod planning;
 mod prefixes;
 mod table;
@@ -22,6 +23,7 @@ pub use columns::{
     names_dx, operand_width, takes_lock,
 };
 pub use decoding::decode;
+pub use locking::{destination, lock_is_undefined};
 pub use planning::plan;
 pub use svm_model::{
     Decoded, Form, Op, Operand, PlannedAccess, Registers, Row, Segment, Touch, Width,

@@ -9,12 +9,12 @@ use Rattle.std.proofs.lemmas.Bool.{ltb-true, leb-true, and_parts}
 use Rattle.svm_model.specs.Machine.Bus.{device_count}
 use Rattle.svm_model.specs.Formats.Image.{Image}
 use Rattle.svm_model.specs.Formats.Script.{Script, at_line, count_of, script_from, script_limit, script_of, IsLawfulLine, AreLawful, IsLawful, events_of}
-use Rattle.svm_model.specs.Formats.ScriptLines.{judged, vcpus_in, place_values, place_line, run_values, run_line, feed_values, feed_line, unplug_values, unplug_line, command, within_limit, said_by, said_in, said_of, event_limit}
+use Rattle.svm_model.specs.Formats.ScriptLines.{judged, of_guest, place_values, place_line, run_values, run_line, feed_values, feed_line, unplug_values, unplug_line, dump_values, dump_line, command, within_limit, said_by, said_in, said_of, event_limit}
 use Rattle.svm_model.specs.Formats.ScriptWords.{◌>>=◌, number_in, is_text, is_comment, words_of, lines_of}
-use Rattle.svm_model.specs.Machine.Shapes.{Shape, image_shape}
+use Rattle.svm_model.specs.Machine.Shapes.{Shape, dump_limit, image_shape}
 use Rattle.svm_model.specs.declared.formats.ScriptLine.{ScriptLine}
 use Rattle.svm_model.specs.declared.formats.ScriptReason.{ScriptReason}
-use Rattle.svm_model.specs.declared.formats.ScriptReason.TheVariants.{Bytes, Cpu, Vcpu, Device, Count, Value, Events}
+use Rattle.svm_model.specs.declared.formats.ScriptReason.TheVariants.{Bytes, Cpu, Vcpu, Device, Count, Value, Length, Address, Events}
 use Rattle.script_format.specs.declared.refusal.ScriptRefusal.{ScriptRefusal}
 use Rattle.script_format.specs.Reading.{GivesScript}
 use Rattle.script_format.proofs.Order.{all_counted}
@@ -42,14 +42,14 @@ either false r s Q h k = k
 abbrev BeginsAt : Shape → ℕ → ScriptLine → Type 0
 BeginsAt shape first line = IsLawfulLine shape line × (line.first ≡ first)
 
-counted : (o : Option ℕ) → IfOk (vcpus_in o) (λ count. o ≡ Some count)
+counted : (o : Option ℕ) → IfOk (of_guest o) (λ count. o ≡ Some count)
 counted None = tt
 counted (Some count) = refl
 
 place_is : (shape : Shape) (first cpu guest vcpu : ℕ) → IfOk (place_values shape first cpu guest vcpu) (BeginsAt shape first)
 place_is shape first cpu guest vcpu =
     then (λ there. there < shape.cpus) (BeginsAt shape first) (judged Cpu (ltb cpu shape.cpus) cpu) _ (passes Cpu (ltb cpu shape.cpus) cpu (λ there. there < shape.cpus) (λ good. ltb-true cpu shape.cpus good)) (λ there a.
-    then (λ count. slice_get shape.vcpus guest ≡ Some count) (BeginsAt shape first) (vcpus_in (slice_get shape.vcpus guest)) _ (counted (slice_get shape.vcpus guest)) (λ count b.
+    then (λ count. slice_get shape.vcpus guest ≡ Some count) (BeginsAt shape first) (of_guest (slice_get shape.vcpus guest)) _ (counted (slice_get shape.vcpus guest)) (λ count b.
     then (λ index. index < count) (BeginsAt shape first) (judged Vcpu (ltb vcpu count) vcpu) _ (passes Vcpu (ltb vcpu count) vcpu (λ index. index < count) (λ good. ltb-true vcpu count good)) (λ index d.
     (record { named = (a, (count, b, d)); some = omega arith; single = refl }, refl))))
 
@@ -111,12 +111,37 @@ unplug_line_is shape first [] = tt
 unplug_line_is shape first (device ∷ []) = skip (BeginsAt shape first) (number_in device) _ (λ d. unplug_is shape first d)
 unplug_line_is shape first (a ∷ b ∷ words) = tt
 
+dump_is : (shape : Shape) (first guest address length : ℕ) → IfOk (dump_values shape first guest address length) (BeginsAt shape first)
+dump_is shape first guest address length =
+    let fits = leb 1 length && leb length dump_limit in
+    then (λ size. slice_get shape.sizes guest ≡ Some size) (BeginsAt shape first) (of_guest (slice_get shape.sizes guest)) _ (counted (slice_get shape.sizes guest)) (λ size a.
+    then (λ count. (1 ≤ count) × (count ≤ dump_limit)) (BeginsAt shape first) (judged Length fits length) _
+    (passes Length fits length (λ count. (1 ≤ count) × (count ≤ dump_limit)) (λ good.
+    let parts = and_parts (leb 1 length) (leb length dump_limit) good in
+    (leb-true 1 length parts.0, leb-true length dump_limit parts.1))) (λ count b.
+    then (λ at. at + count ≤ size) (BeginsAt shape first) (judged Address (leb (address + count) size) address) _
+    (passes Address (leb (address + count) size) address (λ at. at + count ≤ size) (λ good. leb-true (address + count) size good)) (λ at d.
+    (record { named = record { size = size; there = a; some = b.0; most = b.1; within = d }; some = omega arith; single = refl }, refl))))
+
+dump_line_is : (shape : Shape) (first : ℕ) (words : List (List ℕ)) → IfOk (dump_line shape first words) (BeginsAt shape first)
+unfolding dump_line
+dump_line_is shape first [] = tt
+dump_line_is shape first (a ∷ []) = tt
+dump_line_is shape first (a ∷ b ∷ []) = tt
+dump_line_is shape first (guest ∷ address ∷ length ∷ []) =
+    skip (BeginsAt shape first) (number_in guest) _ (λ g.
+    skip (BeginsAt shape first) (number_in address) _ (λ a.
+    skip (BeginsAt shape first) (number_in length) _ (λ l.
+    dump_is shape first g a l)))
+dump_line_is shape first (a ∷ b ∷ c ∷ d ∷ words) = tt
+
 command_is : (shape : Shape) (first : ℕ) (word : List ℕ) (words : List (List ℕ)) → IfOk (command shape first word words) (BeginsAt shape first)
 command_is shape first word words =
     either (bytes_eq word (codes "place")) _ _ (BeginsAt shape first) (place_line_is shape first words)
     (either (bytes_eq word (codes "run")) _ _ (BeginsAt shape first) (run_line_is shape first words)
     (either (bytes_eq word (codes "feed")) _ _ (BeginsAt shape first) (feed_line_is shape first words)
-    (either (bytes_eq word (codes "unplug")) _ _ (BeginsAt shape first) (unplug_line_is shape first words) tt)))
+    (either (bytes_eq word (codes "unplug")) _ _ (BeginsAt shape first) (unplug_line_is shape first words)
+    (either (bytes_eq word (codes "dump")) _ _ (BeginsAt shape first) (dump_line_is shape first words) tt))))
 
 -- what a line says is lawful, begins at the number, and does not go past the most events
 abbrev IsKept : Shape → ℕ → ScriptLine → Type 0

@@ -3,7 +3,7 @@
 ghost use Rattle.std.specs.Prelude.{◌≡◌, ◌≤◌, ◌<◌, [], ◌∷◌, map, nat_lt, slice_get, IfOk};
 ghost use Rattle.svm_model.specs.Formats.LawfulImages.{IsLawfulImage};
 ghost use Rattle.svm_model.specs.Machine.Bus.{device_count};
-ghost use Rattle.svm_model.specs.Formats.ScriptLines.{command, feed_line, feed_values, judged, line_of, place_line, place_values, run_line, run_values, unplug_line, unplug_values, vcpus_in, within_limit};
+ghost use Rattle.svm_model.specs.Formats.ScriptLines.{command, dump_line, dump_values, feed_line, feed_values, judged, line_of, of_guest, place_line, place_values, run_line, run_values, unplug_line, unplug_values, within_limit};
 ghost use Rattle.svm_model.specs.Machine.Shapes.{image_shape};
 
 use crate::numbers::number_in;
@@ -15,6 +15,12 @@ const EVENT_LIMIT: u32 = 1_048_576;
 
 // How many devices there are.
 const DEVICE_COUNT: u64 = 16;
+
+// The most bytes that a dump shows.
+const DUMP_LIMIT: u64 = 256;
+
+// The bytes of a page.
+const PAGE: u64 = 4096;
 
 // So many times the same event, from a number on.
 fn line_of(event: Event, first: u32, times: u32) -> ScriptLine
@@ -41,7 +47,7 @@ fn cpu_in(image: &Image, cpu: u64) -> Result<CpuId, ScriptReason>
 // The number of a guest's vcpus.
 fn vcpus_in(image: &Image, guest: u64) -> Result<u8, ScriptReason>
     requires lawful { IsLawfulImage image.now }
-    ensures count { result ≡ vcpus_in (slice_get (image_shape image.now).vcpus guest) }
+    ensures count { result ≡ of_guest (slice_get (image_shape image.now).vcpus guest) }
     ensures few { IfOk result (λ count. (guest < 4) × (count ≤ 8)) }
 {
     match image.guests.get(guest as usize) {
@@ -203,6 +209,76 @@ fn unplug_line(first: u32, words: &[&[u8]]) -> Result<ScriptLine, ScriptReason>
     unplug_word(first, device)
 }
 
+// The number of the bytes of a guest's memory.
+fn size_in(image: &Image, guest: u64) -> Result<u64, ScriptReason>
+    requires lawful { IsLawfulImage image.now }
+    ensures size { result ≡ of_guest (slice_get (image_shape image.now).sizes guest) }
+    ensures few { IfOk result (λ size. guest < 4) }
+{
+    match image.guests.get(guest as usize) {
+        Some(guest) => Ok(PAGE * u64::from(guest.pages)),
+        None => Err(ScriptReason::Guest),
+    }
+}
+
+// The address is looked at behind the length.
+fn dump_values(
+    image: &Image,
+    first: u32,
+    guest: u64,
+    address: u64,
+    length: u64,
+) -> Result<ScriptLine, ScriptReason>
+    requires lawful { IsLawfulImage image.now }
+    ensures { result ≡ dump_values (image_shape image.now) first guest address length }
+{
+    let size = size_in(image, guest)?;
+    if length < 1 || length > DUMP_LIMIT {
+        return Err(ScriptReason::Length);
+    }
+    if address > size || length > size - address {
+        return Err(ScriptReason::Address);
+    }
+    let guest = GuestId(guest as u8);
+    let length = length as u16;
+    let event = Event::Dump {
+        guest,
+        address,
+        length,
+    };
+    Ok(line_of(event, first, 1))
+}
+
+// All are numbers before the value of any is looked at.
+#[tactic(auto, unfolding(svm_model::specs::Formats::ScriptLines::dump_line))]
+fn dump_words(
+    image: &Image,
+    first: u32,
+    guest: &[u8],
+    address: &[u8],
+    length: &[u8],
+) -> Result<ScriptLine, ScriptReason>
+    requires lawful { IsLawfulImage image.now }
+    ensures { result ≡ dump_line (image_shape image.now) first (guest.now ∷ address.now ∷ length.now ∷ []) }
+{
+    let guest = number_in(guest)?;
+    let address = number_in(address)?;
+    let length = number_in(length)?;
+    dump_values(image, first, guest, address, length)
+}
+
+// The words behind `dump`: a guest, an address in its memory, and how many bytes from there on.
+#[tactic(auto, unfolding(svm_model::specs::Formats::ScriptLines::dump_line))]
+fn dump_line(image: &Image, first: u32, words: &[&[u8]]) -> Result<ScriptLine, ScriptReason>
+    requires lawful { IsLawfulImage image.now }
+    ensures { result ≡ dump_line (image_shape image.now) first (map (λ w. w.now) words.now) }
+{
+    let [guest, address, length] = words else {
+        return Err(ScriptReason::Words);
+    };
+    dump_words(image, first, guest, address, length)
+}
+
 /// What the words behind a first word say, where so many events come before the line.
 pub fn command(
     image: &Image,
@@ -221,6 +297,8 @@ pub fn command(
         feed_line(first, words)
     } else if word == b"unplug".as_slice() {
         unplug_line(first, words)
+    } else if word == b"dump".as_slice() {
+        dump_line(image, first, words)
     } else {
         Err(ScriptReason::Word)
     }

@@ -28,7 +28,7 @@ fn image_of(alloc: Global, cpus: u8, guests: &[u8]) -> Result<Image, Fail>
 
 // Scripts for an image of one processor and one vcpu: how many lines say something, and how many events they are.
 #[rattlefmt::skip]
-const SCRIPTS: [(&[u8], usize, u32); 17] = [
+const SCRIPTS: [(&[u8], usize, u32); 20] = [
     (b"place 0 0 0\nrun 0 1\n", 2, 2),
     (b"place 0 0 0\r\nrun 0 1\r\n", 2, 2),
     (b"place 0 0 0\nrun 0 7", 2, 8),
@@ -47,6 +47,10 @@ const SCRIPTS: [(&[u8], usize, u32); 17] = [
     (b"run 0 1048575\nplace 0 0 0", 2, 1_048_576),
     (b"run 0 0x100000\n# no more", 1, 1_048_576),
     (b"feed 0 4294967295\nfeed 15 0\nunplug 0xf\nunplug 15\n", 4, 4),
+    // The guest has 4096 bytes.
+    (b"dump 0 0 1\ndump 0 0 256\n", 2, 2),
+    (b"dump 0 4095 1\n dump 0x0 0xf00 0x100\n", 2, 2),
+    (b"run 0 1048575\ndump 0 3840 256", 2, 1_048_576),
 ];
 
 #[test]
@@ -61,7 +65,7 @@ fn scripts_are_read(rt: HostRuntime) -> Result<(), Fail> {
 
 // Scripts that are refused for the same image: the line, and the reason.
 #[rattlefmt::skip]
-const REFUSED: [(&[u8], u32, ScriptReason); 68] = [
+const REFUSED: [(&[u8], u32, ScriptReason); 93] = [
     (b"run 0 1\r", 1, ScriptReason::Bytes),
     (b"run 0 1\r\r\n", 1, ScriptReason::Bytes),
     (b"run 0\r 1\n", 1, ScriptReason::Bytes),
@@ -112,6 +116,32 @@ const REFUSED: [(&[u8], u32, ScriptReason); 68] = [
     (b"unplug 16\n", 1, ScriptReason::Device),
     (b"unplug 256\n", 1, ScriptReason::Device),
     (b"run 0 1048576\nfeed 0 0\n", 2, ScriptReason::Events),
+    // Of a dump: the number of the words, each number, and then guest, length and address.
+    (b"dump 0 0 1 \x7f\n", 1, ScriptReason::Bytes),
+    (b"dumps 0 0 1\n", 1, ScriptReason::Word),
+    (b"dump\n", 1, ScriptReason::Words),
+    (b"dump 0 0\n", 1, ScriptReason::Words),
+    (b"dump 1 0 x 0\n", 1, ScriptReason::Words),
+    (b"dump x 0 1\n", 1, ScriptReason::Number),
+    (b"dump 0 x 1\n", 1, ScriptReason::Number),
+    (b"dump 1 0 x\n", 1, ScriptReason::Number),
+    (b"dump 1 18446744073709551616 0\n", 1, ScriptReason::Number),
+    (b"dump 1 0 0\n", 1, ScriptReason::Guest),
+    (b"dump 1 0 1\n", 1, ScriptReason::Guest),
+    (b"dump 256 0 1\n", 1, ScriptReason::Guest),
+    (b"dump 18446744073709551615 0 1\n", 1, ScriptReason::Guest),
+    (b"dump 0 0 0\n", 1, ScriptReason::Length),
+    (b"dump 0 0 257\n", 1, ScriptReason::Length),
+    (b"dump 0 4096 0\n", 1, ScriptReason::Length),
+    (b"dump 0 18446744073709551615 257\n", 1, ScriptReason::Length),
+    (b"dump 0 0 65537\n", 1, ScriptReason::Length),
+    (b"dump 0 4096 1\n", 1, ScriptReason::Address),
+    (b"dump 0 4095 2\n", 1, ScriptReason::Address),
+    (b"dump 0 3841 256\n", 1, ScriptReason::Address),
+    (b"dump 0 18446744073709551615 1\n", 1, ScriptReason::Address),
+    (b"dump 0 18446744073709551360 256\n", 1, ScriptReason::Address),
+    (b"run 0 1048576\ndump 0 4096 1\n", 2, ScriptReason::Address),
+    (b"run 0 1048576\ndump 0 0 1\n", 2, ScriptReason::Events),
     // A number is told before a value, and the values in their order.
     (b"place 1 1 x\n", 1, ScriptReason::Number),
     (b"run 1 x\n", 1, ScriptReason::Number),
@@ -211,6 +241,20 @@ fn events_by_number(rt: HostRuntime) -> Result<(), Fail> {
         assert_eq!(rt; script.event_at(number as u32, image.cpus), events[number]);
     }
     assert_eq!(rt; script.event_at(u32::MAX, image.cpus), None);
+    Ok(())
+}
+
+#[test]
+fn a_dump_is_one_event(rt: HostRuntime) -> Result<(), Fail> {
+    let image = image_of(rt.alloc(), 1, &[1, 1])?;
+    let script = parse_script(rt.alloc(), b"run 0 2\ndump 1 0xf01 255\nrun 0 1", &image)?;
+    let dump = Event::Dump {
+        guest: GuestId(1),
+        address: 0xf01,
+        length: 255,
+    };
+    assert_eq!(rt; script.events, 4);
+    assert_eq!(rt; script.event_at(2, image.cpus), Some(dump));
     Ok(())
 }
 

@@ -1,13 +1,15 @@
 pub mod BusLemmas
 pub mod CanonicalLemmas
 pub mod EndLemmas
-pub mod LastLemmas
+pub mod LastCourses
+pub mod LastPlays
 pub mod LeadsLemmas
 pub mod NestedLemmas
 pub mod PausedLemmas
 pub mod PutLemmas
 pub mod RflagsLemmas
 pub mod RowTableLemmas
+pub mod TurnEnds
 pub mod UserRowLemmas
 pub mod VmcbLemmas
 pub mod WalkLemmas

@@ -1,24 +1,33 @@
 -- How the runs of a job end, by what ended them.
-use Rattle.std.proofs.Common.{◌≡◌, ◌∙◌, ℕ, ◌<◌, ◌==◌, true, false, List, [], Option, Some, None, Result, Ok, Err, IfSome, length, slice_get, take, ap, refl, sym, subst, arith}
+use Rattle.std.proofs.Common.{◌≡◌, ◌∙◌, ℕ, ◌+◌, ◌-◌, ◌≤◌, ◌<◌, ◌==◌, true, false, List, [], ◌++◌, Option, Some, None, Result, Ok, Err, IfSome, length, slice_get, take, ap, refl, sym, subst, arith, append_assoc, append-nil, inl, inr}
+use Rattle.std.proofs.Math.Nat.{eq-or-lt_of_le}
+use Rattle.std.proofs.Math.Seq.{take-length}
 use Rattle.std.proofs.lemmas.Bool.Decides.{nat_tests}
 use Rattle.byte_shelf.specs.Shelf.{Files}
-use Rattle.byte_shelf.specs.Sink.{appended}
+use Rattle.byte_shelf.specs.Sink.{appended, IsCutShort}
+use Rattle.byte_shelf.specs.declared.answers.SinkRefusal.TheVariants as sink
 use Rattle.svm_model.specs.Machine.Bus.{Bus}
 use Rattle.svm_model.specs.Formats.Image.{Image}
 use Rattle.svm_model.specs.Formats.Script.{Script, events_of}
+use Rattle.svm_model.specs.Formats.Text.{report}
 use Rattle.svm_model.specs.Machine.Runs.{Led, plain_run}
 use Rattle.svm_model.specs.Machine.World.{World, world_of}
-use Rattle.svm_run.specs.Answers.{Ends, EndsRun, HandsOverIt, IsCutAt, IsOfReading, IsReached, IsRefusedAt, Receives, ReceivesLine}
+use Rattle.svm_model.specs.declared.names.Event.{Event}
+use Rattle.svm_model.specs.declared.names.RunEnd.TheVariants.{Device as FailedDevice, NoMemory as NoRoom}
+use Rattle.svm_run.specs.Answers.{Ends, EndsRun, HandsOverIt, HasCause, IsBeforeRun, IsCutBehind, IsDetermined, IsOfReading, IsReached, IsRefusedAt, Receives, ReceivesLine, ReceivesPart}
 use Rattle.svm_run.specs.Jobs.{Job, job, job_with_names}
-use Rattle.svm_run.specs.Outcome.{completed, outcome_after, led_until, text_until}
+use Rattle.svm_run.specs.Outcome.{completed, event_text, events_text, outcome_after, led_until, text_until, texts_of}
 use Rattle.svm_run.specs.StatusLine.{status_line}
-use Rattle.svm_run.specs.Statuses.{Meaning, Blame, FirstEvents, NotAllEvents, TextThenLine, PartThenLine, meaning, meaning_of}
+use Rattle.svm_run.specs.Statuses.{Blame, NothingOutside, TheShelf, TheSink, TheDevice, WantOfMemory, EventsToLine, FirstEvents, NotAllEvents, PartOfText, TextThenLine, PartThenLine, meaning, meaning_of}
+use Rattle.svm_run.specs.Stops.{EndsEvents, IsCutAt, IsOfCounts, IsStoppedAt, status_of, text_at}
+use Rattle.svm_run.specs.declared.running.RunFault.{RunFault}
+use Rattle.svm_run.specs.declared.running.RunFault.TheVariants as fault
 use Rattle.svm_run.specs.declared.status.Status.{Status}
 use Rattle.svm_run.specs.declared.status.Status.TheVariants.{Done, Words, Input, OutsideFault, NoMemory, LeftProfile}
 use Rattle.svm_run.specs.declared.status.OutsideFault.TheVariants.{Read, Write, Device}
-use Rattle.svm_run.proofs.Events.{led}
-use Rattle.svm_run.proofs.Received.{appended-nothing, at_once}
-use Rattle.svm_run.proofs.Runs.{led-completed, led-some, bus-none, bus-some, bus-all}
+use Rattle.svm_run.proofs.Events.{led, led_same, texts-grow, texts_next, texts_none}
+use Rattle.svm_run.proofs.Received.{appended-nothing, appended-twice, at_once, because, behind_cut, behind_text, cut_after, cut_behind, part_after}
+use Rattle.svm_run.proofs.Runs.{led-some, bus-none, bus-some, bus-all}
 
 itself : (n : ℕ) → (n == n) ≡ true
 itself n = grind (arith, nat_tests)
@@ -31,10 +40,41 @@ text-all : (bus : Bus) (j : Job) → text_until (length (events_of j.script)) bu
 unfolding text_until
 text-all bus j = rw (itself (length (events_of j.script))) refl
 
--- nothing is printed before
-text-before : (count : ℕ) (bus : Bus) (j : Job) → count < length (events_of j.script) → text_until count bus j ≡ []
+-- before there are the texts of events alone
+text-before : (count : ℕ) (bus : Bus) (j : Job) → count < length (events_of j.script) → text_until count bus j ≡ events_text count bus j
 unfolding text_until
 text-before count bus j h = rw (other count (length (events_of j.script)) h) refl
+
+-- of all events this is printed
+whole-text : (w v : World) (bus now : Bus) (image : Image) (script : Script) → w ≡ world_of image → v ≡ (plain_run w bus (events_of script)).world → now ≡ (plain_run w bus (events_of script)).bus →
+    texts_of w bus (events_of script) ++ (outcome_after [] (led v now)).text ≡ text_until (length (events_of script)) bus (job image script)
+unfolding completed outcome_after
+whole-text w v bus now image script e f g =
+    ap (λ (l : Led). texts_of w bus (events_of script) ++ report l.world l.bus) (led_same _ _ _ _ f g)
+    ∙ ap (λ (u : World). texts_of u bus (events_of script) ++ report (plain_run u bus (events_of script)).world (plain_run u bus (events_of script)).bus) e
+    ∙ sym (text-all bus (job image script))
+
+-- the texts of so many events
+texts-some : (w : World) (bus : Bus) (image : Image) (script : Script) (count : ℕ) → w ≡ world_of image → texts_of w bus (take count (events_of script)) ≡ events_text count bus (job image script)
+unfolding events_text
+texts-some w bus image script count e = ap (λ (u : World). texts_of u bus (take count (events_of script))) e
+
+-- those before the last print no more
+before-few : (w : World) (bus : Bus) (image : Image) (script : Script) (count : ℕ) → w ≡ world_of image →
+    length (events_text (count - 1) bus (job image script)) ≤ length (texts_of w bus (take count (events_of script)))
+before-few w bus image script count e =
+    let P : List ℕ → Type 0 = λ front. length front ≤ length (texts_of w bus (take count (events_of script))) in
+    subst P (texts-some w bus image script (count - 1) e) (texts-grow w bus (events_of script) (count - 1) count (omega arith))
+
+before-all : (w : World) (bus : Bus) (image : Image) (script : Script) → w ≡ world_of image →
+    length (events_text (length (events_of script) - 1) bus (job image script)) ≤ length (texts_of w bus (events_of script))
+before-all w bus image script e =
+    let P : List Event → Type 0 = λ es. length (events_text (length (events_of script) - 1) bus (job image script)) ≤ length (texts_of w bus es) in
+    subst P (take-length (events_of script)) (before-few w bus image script (length (events_of script)) e)
+
+before-none : (bus : Bus) (j : Job) → length (events_text 0 bus j) ≤ 0
+unfolding events_text
+before-none bus j = texts_none (world_of j.image) bus (events_of j.script)
 
 -- there was no memory for the machine
 pub ends-unstarted : (code : ℕ) (blame : Blame) (line : List ℕ) (j : Job) (bus : Bus) (old new : Option (List ℕ)) (r : Type 0) →
@@ -44,62 +84,239 @@ ends-unstarted code blame line j bus old new r h = record {
   reached = omega arith;
   refused_at = tt;
   bus = bus-none bus j;
-  printed = at_once old new (text_until 0 bus j) line r h;
+  printed = at_once old new (events_text 0 bus j) (text_until 0 bus j) line r (before-none bus j) h;
 }
 
--- all events were run
-pub ends-finished : (m : Meaning) (line : List ℕ) (w v : World) (bus now : Bus) (image : Image) (script : Script) (old new : Option (List ℕ)) (r : Type 0) →
-    w ≡ world_of image → v ≡ (plain_run w bus (events_of script)).world → now ≡ (plain_run w bus (events_of script)).bus →
-    ((count : ℕ) → IsReached m.events count count) → ((count : ℕ) (b : Bus) (j : Job) → IsRefusedAt m.events count b j) →
-    Receives m.printed (outcome_after (led v now)).text line old new r → EndsRun m line (job image script) bus now old new r
-ends-finished m line w v bus now image script old new r e f g h k p =
-    let all : (outcome_after (led v now)).text ≡ text_until (length (events_of script)) bus (job image script) =
-    ap (λ o. o.text) (led-completed w v bus now image script e f g) ∙ sym (text-all bus (job image script)) in
+-- All events were run.
+
+-- what was received of the report, behind the texts of the events
+received-all : (status : Status) (old mid new : Option (List ℕ)) (before front text : List ℕ) (r s : Type 0) → (IsBeforeRun status → ⊥) → length before ≤ length front → mid ≡ appended old front → (r → s) →
+    Receives (meaning_of status).printed [] text (status_line status) mid new r → Receives (meaning_of status).printed before (front ++ text) (status_line status) old new s
+received-all Done old mid new before front text r s run few e cause h = h ∙ ap (λ (o : Option (List ℕ)). appended o text) e ∙ appended-twice old front text
+received-all Words old mid new before front text r s run few e cause h = absurd (run tt)
+received-all (Input fault) old mid new before front text r s run few e cause h = absurd (run tt)
+received-all (OutsideFault Read) old mid new before front text r s run few e cause h = absurd (run tt)
+received-all (OutsideFault Write) old mid new before front text r s run few e cause h =
+    let P : Option (List ℕ) → Type 0 = λ o. IsCutBehind o new [] text in
+    cut_after old new before front text few (subst P e h)
+received-all (OutsideFault (Device device)) old mid new before front text r s run few e cause h =
+    let P : Option (List ℕ) → Type 0 = λ o. ReceivesLine o new (status_line (OutsideFault (Device device))) s in
+    subst P (ap (λ (o : Option (List ℕ)). appended o text) e ∙ appended-twice old front text)
+    (because (appended mid text) new (status_line (OutsideFault (Device device))) r s cause h)
+received-all NoMemory old mid new before front text r s run few e cause h =
+    let P : Option (List ℕ) → Type 0 = λ o. ReceivesPart o new [] text (status_line NoMemory) r in
+    part_after old new before front text (status_line NoMemory) r s few cause (subst P e h)
+received-all LeftProfile old mid new before front text r s run few e cause h = h ∙ ap (λ (o : Option (List ℕ)). appended o text) e ∙ appended-twice old front text
+
+pub ends-finished : (status : Status) (w v : World) (bus now : Bus) (image : Image) (script : Script) (old mid new : Option (List ℕ)) (r s : Type 0) →
+    w ≡ world_of image → v ≡ (plain_run w bus (events_of script)).world → now ≡ (plain_run w bus (events_of script)).bus → mid ≡ appended old (texts_of w bus (events_of script)) →
+    ((count : ℕ) → IsReached (meaning_of status).events count count) → ((count : ℕ) (b : Bus) (j : Job) → IsRefusedAt (meaning_of status).events count b j) → (IsBeforeRun status → ⊥) → (r → s) →
+    Receives (meaning_of status).printed [] (outcome_after [] (led v now)).text (status_line status) mid new r →
+    EndsRun (meaning_of status) (status_line status) (job image script) bus now old new s
+ends-finished status w v bus now image script old mid new r s e f g texts h k run cause p =
+    let before = events_text (length (events_of script) - 1) bus (job image script) in
+    let all = received-all status old mid new before (texts_of w bus (events_of script)) (outcome_after [] (led v now)).text r s run (before-all w bus image script e) texts cause p in
     record {
       count = length (events_of script);
       reached = h (length (events_of script));
       refused_at = k (length (events_of script)) bus (job image script);
       bus = bus-all w bus now image script e g;
-      printed = let P : List ℕ → Type 0 = λ text. Receives m.printed text line old new r in subst P all p;
+      printed =
+          let P : List ℕ → Type 0 = λ text. Receives (meaning_of status).printed before text (status_line status) old new s in
+          subst P (whole-text w v bus now image script e f g) all;
     }
+
+-- The run was ended before.
+
+-- what was printed until a number of events that are not all
+text-at : (w : World) (bus : Bus) (image : Image) (script : Script) (count : ℕ) → w ≡ world_of image → count < length (events_of script) →
+    text_until count bus (job image script) ≡ texts_of w bus (take count (events_of script))
+text-at w bus image script count e h = text-before count bus (job image script) h ∙ sym (texts-some w bus image script count e)
 
 -- the bus refused what an event handed it
-pub ends-refused : (code : ℕ) (blame : Blame) (line : List ℕ) (w : World) (bus now : Bus) (image : Image) (script : Script) (old new : Option (List ℕ)) (r : Type 0) →
-    w ≡ world_of image → IsCutAt w (events_of script) bus now → ReceivesLine old new line r →
+ends-refused : (code : ℕ) (blame : Blame) (line : List ℕ) (w : World) (bus now : Bus) (image : Image) (script : Script) (old mid new : Option (List ℕ)) (r : Type 0) →
+    w ≡ world_of image → IsCutAt w (events_of script) bus now old mid → ReceivesLine mid new line r →
     EndsRun (meaning code NotAllEvents TextThenLine blame) line (job image script) bus now old new r
-ends-refused code blame line w bus now image script old new r e cut h =
+ends-refused code blame line w bus now image script old mid new r e cut h =
     let j = job image script in
-    let there : now ≡ (led_until cut.count bus j).bus = bus-some w bus now image script cut.count e cut.bus in
-    let nothing : old ≡ appended old (text_until cut.count bus j) =
-    sym (ap (appended old) (text-before cut.count bus j cut.short) ∙ appended-nothing old) in
+    let stop = cut.stopped in
+    let there : now ≡ (led_until stop.count bus j).bus = bus-some w bus now image script stop.count e stop.bus in
     record {
-      count = cut.count;
-      reached = cut.short;
+      count = stop.count;
+      reached = stop.short;
       refused_at =
-          let P : World → Type 0 = λ u. HandsOverIt u (led_until cut.count bus j).bus (slice_get (events_of script) cut.count) in
-          let Q : Bus → Type 0 = λ b. HandsOverIt (plain_run w bus (take cut.count (events_of script))).world b (slice_get (events_of script) cut.count) in
-          subst P (ap (λ (l : Led). l.world) (led-some w bus image script cut.count e)) (subst Q there cut.refused);
+          let P : World → Type 0 = λ u. HandsOverIt u (led_until stop.count bus j).bus (slice_get (events_of script) stop.count) in
+          let Q : Bus → Type 0 = λ b. HandsOverIt (plain_run w bus (take stop.count (events_of script))).world b (slice_get (events_of script) stop.count) in
+          subst P (ap (λ (l : Led). l.world) (led-some w bus image script stop.count e)) (subst Q there cut.refused);
       bus = there;
-      printed = let P : Option (List ℕ) → Type 0 = λ o. ReceivesLine o new line r in subst P nothing h;
+      printed =
+          let P : Option (List ℕ) → Type 0 = λ o. ReceivesLine o new line r in
+          subst P (stop.printed ∙ ap (appended old) (sym (text-at w bus image script stop.count e stop.short))) h;
     }
 
--- there was no memory for what an event handed over
-pub ends-cut : (code : ℕ) (blame : Blame) (line : List ℕ) (w : World) (bus now : Bus) (image : Image) (script : Script) (old new : Option (List ℕ)) (r : Type 0) →
-    w ≡ world_of image → IsCutAt w (events_of script) bus now → ReceivesLine old new line r →
+-- there was no memory for an event
+ends-stopped : (code : ℕ) (blame : Blame) (line : List ℕ) (w : World) (bus now : Bus) (image : Image) (script : Script) (old mid new : Option (List ℕ)) (r : Type 0) →
+    w ≡ world_of image → IsStoppedAt w (events_of script) bus now old mid → ReceivesLine mid new line r →
     EndsRun (meaning code FirstEvents PartThenLine blame) line (job image script) bus now old new r
-ends-cut code blame line w bus now image script old new r e cut h = record {
-  count = cut.count;
-  reached = omega (arith, cut.short);
-  refused_at = tt;
-  bus = bus-some w bus now image script cut.count e cut.bus;
-  printed = at_once old new (text_until cut.count bus (job image script)) line r h;
-}
+ends-stopped code blame line w bus now image script old mid new r e stop h =
+    let j = job image script in
+    let front = texts_of w bus (take stop.count (events_of script)) in
+    record {
+      count = stop.count;
+      reached = omega (arith, stop.short);
+      refused_at = tt;
+      bus = bus-some w bus now image script stop.count e stop.bus;
+      printed =
+          let P : List ℕ → Type 0 = λ text. ReceivesPart old new (events_text (stop.count - 1) bus j) text line r in
+          subst P (append-nil front ∙ sym (text-at w bus image script stop.count e stop.short))
+          (behind_text old mid new (events_text (stop.count - 1) bus j) front [] line r (before-few w bus image script stop.count e) stop.printed h);
+    }
+
+-- The sink refused what an event prints.
+
+rest-all : (w : World) (bus : Bus) (image : Image) (script : Script) (count : ℕ) → w ≡ world_of image → count ≡ length (events_of script) →
+    (rest : List ℕ) × (text_until count bus (job image script) ≡ texts_of w bus (take count (events_of script)) ++ rest)
+rest-all w bus image script count e same =
+    let now = plain_run w bus (events_of script) in
+    let rest = (outcome_after [] (led now.world now.bus)).text in
+    let whole : take count (events_of script) ≡ events_of script = ap (λ n. take n (events_of script)) same ∙ take-length (events_of script) in (
+      rest,
+      ap (λ n. text_until n bus (job image script)) same ∙ sym (whole-text w now.world bus now.bus image script e refl refl)
+          ∙ ap (λ es. texts_of w bus es ++ rest) (sym whole),
+    )
+
+-- what stands behind the texts of so many events: nothing, or the report
+rest-of : (w : World) (bus : Bus) (image : Image) (script : Script) (count : ℕ) → w ≡ world_of image → count ≤ length (events_of script) →
+    (rest : List ℕ) × (text_until count bus (job image script) ≡ texts_of w bus (take count (events_of script)) ++ rest)
+rest-of w bus image script count e h =
+    elim (eq-or-lt_of_le h) [ inl same ↦ rest-all w bus image script count e same | inr less ↦ ([], text-at w bus image script count e less ∙ sym (append-nil _)) ]
+
+-- a number of events, and the one behind them that was not wholly printed
+abbrev IsBehind : World → Bus → Bus → Image → Script → ℕ → Option (List ℕ) → Option (List ℕ) → Option Event → Type 0
+IsBehind w bus now image script n old mid event =
+    (n < length (events_of script)) × (now ≡ (plain_run w bus (take (n + 1) (events_of script))).bus)
+    × IsCutShort (appended old (texts_of w bus (take n (events_of script)))) mid (text_at (plain_run w bus (take n (events_of script))).world event)
+
+-- the text that it was cut of
+cut-text : (w : World) (bus : Bus) (image : Image) (script : Script) (n : ℕ) (event : Event) → w ≡ world_of image → n < length (events_of script) → slice_get (events_of script) n ≡ Some event →
+    (rest : List ℕ) × (text_until (n + 1) bus (job image script) ≡ texts_of w bus (take n (events_of script)) ++ (event_text (plain_run w bus (take n (events_of script))).world event ++ rest))
+cut-text w bus image script n event e short there =
+    let more = rest-of w bus image script (n + 1) e (omega (arith, short)) in (
+      more.0,
+      more.1 ∙ ap (λ front. front ++ more.0) (texts_next w bus (events_of script) n event there)
+          ∙ append_assoc (texts_of w bus (take n (events_of script))) (event_text (plain_run w bus (take n (events_of script))).world event) more.0,
+    )
+
+-- all that the events before it print
+before-it : (w : World) (bus : Bus) (image : Image) (script : Script) (n : ℕ) → w ≡ world_of image →
+    length (events_text (n + 1 - 1) bus (job image script)) ≤ length (texts_of w bus (take n (events_of script)))
+before-it w bus image script n e =
+    let same : n ≡ n + 1 - 1 = omega arith in
+    let P : ℕ → Type 0 = λ m. length (events_text m bus (job image script)) ≤ length (texts_of w bus (take n (events_of script))) in
+    let Q : List ℕ → Type 0 = λ text. length text ≤ length (texts_of w bus (take n (events_of script))) in
+    subst P same (subst Q (texts-some w bus image script n e) (omega arith))
+
+nothing-more : (mid new : Option (List ℕ)) (r : Type 0) → ReceivesLine mid new [] r → mid ≡ new
+nothing-more mid new r h = elim h [ inl e ↦ sym (e ∙ appended-nothing mid) | inr p ↦ absurd (let short = p.0.short in omega (arith, short)) ]
+
+-- the sink had a fault
+ends-cut : (code : ℕ) (blame : Blame) (w : World) (bus now : Bus) (image : Image) (script : Script) (n : ℕ) (old mid new : Option (List ℕ)) (event : Option Event) (r : Type 0) →
+    w ≡ world_of image → slice_get (events_of script) n ≡ event → IsBehind w bus now image script n old mid event → ReceivesLine mid new [] r →
+    EndsRun (meaning code EventsToLine PartOfText blame) [] (job image script) bus now old new r
+ends-cut code blame w bus now image script n old mid new None r e there cut h = absurd (let short = cut.2.short in omega (arith, short))
+ends-cut code blame w bus now image script n old mid new (Some event) r e there cut h =
+    let j = job image script in
+    let text = cut-text w bus image script n event e cut.0 there in
+    let before = events_text (n + 1 - 1) bus j in
+    record {
+      count = n + 1;
+      reached = omega (arith, cut.0);
+      refused_at = tt;
+      bus = bus-some w bus now image script (n + 1) e cut.1;
+      printed =
+          let P : List ℕ → Type 0 = λ t. IsCutBehind old new before t in
+          let Q : Option (List ℕ) → Type 0 = λ o. IsCutShort (appended old (texts_of w bus (take n (events_of script)))) o (event_text (plain_run w bus (take n (events_of script))).world event) in
+          subst P (sym text.1)
+          (cut_behind old new before _ _ text.0 (before-it w bus image script n e) (subst Q (nothing-more mid new r h) cut.2));
+    }
+
+-- the sink had no memory
+ends-full : (code : ℕ) (blame : Blame) (line : List ℕ) (w : World) (bus now : Bus) (image : Image) (script : Script) (n : ℕ) (old mid new : Option (List ℕ)) (event : Option Event) (r : Type 0) →
+    w ≡ world_of image → slice_get (events_of script) n ≡ event → IsBehind w bus now image script n old mid event → ReceivesLine mid new line r →
+    EndsRun (meaning code FirstEvents PartThenLine blame) line (job image script) bus now old new r
+ends-full code blame line w bus now image script n old mid new None r e there cut h = absurd (let short = cut.2.short in omega (arith, short))
+ends-full code blame line w bus now image script n old mid new (Some event) r e there cut h =
+    let j = job image script in
+    let text = cut-text w bus image script n event e cut.0 there in
+    let before = events_text (n + 1 - 1) bus j in
+    record {
+      count = n + 1;
+      reached = omega (arith, cut.0);
+      refused_at = tt;
+      bus = bus-some w bus now image script (n + 1) e cut.1;
+      printed =
+          let P : List ℕ → Type 0 = λ t. ReceivesPart old new before t line r in
+          subst P (sym text.1)
+          (behind_cut old mid new before _ _ text.0 line r (before-it w bus image script n e) cut.2 h);
+    }
+
+-- whatever ended the run before all was done
+pub ends-early : (fault : RunFault) (w : World) (bus now : Bus) (image : Image) (script : Script) (old mid new : Option (List ℕ)) (r s : Type 0) → w ≡ world_of image →
+    EndsEvents fault w (events_of script) bus now old mid → (r → s) → ReceivesLine mid new (status_line (status_of fault)) r →
+    EndsRun (meaning_of (status_of fault)) (status_line (status_of fault)) (job image script) bus now old new s
+ends-early fault.NoMemory w bus now image script old mid new r s e stop cause h = ends-stopped _ _ _ w bus now image script old mid new s e stop (because mid new _ r s cause h)
+ends-early (fault.Bus (FailedDevice device)) w bus now image script old mid new r s e stop cause h = ends-refused _ _ _ w bus now image script old mid new s e stop (because mid new _ r s cause h)
+ends-early (fault.Bus NoRoom) w bus now image script old mid new r s e stop cause h = ends-stopped _ _ _ w bus now image script old mid new s e stop.stopped (because mid new _ r s cause h)
+ends-early (fault.Sink sink.Failed) w bus now image script old mid new r s e stop cause h =
+    ends-cut _ _ w bus now image script stop.count old mid new (slice_get (events_of script) stop.count) s e refl (stop.short, stop.bus, stop.printed) (because mid new _ r s cause h)
+ends-early (fault.Sink sink.NoMemory) w bus now image script old mid new r s e stop cause h =
+    ends-full _ _ _ w bus now image script stop.count old mid new (slice_get (events_of script) stop.count) s e refl (stop.short, stop.bus, stop.printed) (because mid new _ r s cause h)
+
+-- its status is not determined, comes of a run, and has a cause
+pub undetermined : (fault : RunFault) → IsDetermined (status_of fault) → ⊥
+undetermined fault.NoMemory h = h
+undetermined (fault.Bus (FailedDevice device)) h = h
+undetermined (fault.Bus NoRoom) h = h
+undetermined (fault.Sink sink.Failed) h = h
+undetermined (fault.Sink sink.NoMemory) h = h
+
+pub started : (fault : RunFault) → IsBeforeRun (status_of fault) → ⊥
+started fault.NoMemory h = h
+started (fault.Bus (FailedDevice device)) h = h
+started (fault.Bus NoRoom) h = h
+started (fault.Sink sink.Failed) h = h
+started (fault.Sink sink.NoMemory) h = h
+
+pub caused : (fault : RunFault) (s t k l m : ℕ) (d e : List (Option ℕ)) → l ≤ m → IsOfCounts fault d e k l → HasCause (meaning_of (status_of fault)).blame s t k m d e
+caused fault.NoMemory s t k l m d e less h = tt
+caused (fault.Bus (FailedDevice device)) s t k l m d e less h = h
+caused (fault.Bus NoRoom) s t k l m d e less h = tt
+caused (fault.Sink sink.Failed) s t k l m d e less h = omega (arith, h, less)
+caused (fault.Sink sink.NoMemory) s t k l m d e less h = tt
 
 -- the status that is answered is the one whose line was printed
 pub answered : (answer status : Status) (j : Job) (before after : Bus) (old new : Option (List ℕ)) (r : Type 0) → answer ≡ status →
     EndsRun (meaning_of status) (status_line status) j before after old new r → EndsRun (meaning_of answer) (status_line answer) j before after old new r
 answered answer status j before after old new r e h =
     let P : Status → Type 0 = λ s. EndsRun (meaning_of s) (status_line s) j before after old new r in subst P (sym e) h
+
+pub printed_by : (status : Status) (fault : RunFault) (old new : Option (List ℕ)) (r : Type 0) → status ≡ status_of fault → ReceivesLine old new (status_line status) r →
+    ReceivesLine old new (status_line (status_of fault)) r
+printed_by status fault old new r e h = let P : Status → Type 0 = λ s. ReceivesLine old new (status_line s) r in subst P e h
+
+pub of_status : (P : Status → Type 0) (answer status : Status) → answer ≡ status → P answer → P status
+of_status P answer status e h = subst P e h
+
+pub cause_of : (answer status : Status) (s t k m : ℕ) (d e : List (Option ℕ)) → answer ≡ status → HasCause (meaning_of status).blame s t k m d e → HasCause (meaning_of answer).blame s t k m d e
+cause_of answer status s t k m d e same h = let P : Status → Type 0 = λ x. HasCause (meaning_of x).blame s t k m d e in subst P (sym same) h
+
+-- a cause in a part of the call is one in all of it
+pub cause_later : (blame : Blame) (s t k l m : ℕ) (d e : List (Option ℕ)) → k ≤ l → HasCause blame s t l m d e → HasCause blame s t k m d e
+cause_later NothingOutside s t k l m d e less h = tt
+cause_later TheShelf s t k l m d e less h = h
+cause_later TheSink s t k l m d e less h = omega (arith, h, less)
+cause_later (TheDevice device) s t k l m d e less h = h
+cause_later WantOfMemory s t k l m d e less h = tt
 
 -- Before a run.
 
@@ -122,7 +339,7 @@ untold (Input fault) told s t bus old new r h k = record { events = tt; bus = re
 untold (OutsideFault Read) told s t bus old new r h k = record { events = tt; bus = refl; printed = k }
 untold (OutsideFault Write) told s t bus old new r h k = absurd h
 untold (OutsideFault (Device device)) told s t bus old new r h k = absurd h
-untold NoMemory told s t bus old new r h k = record { events = tt; bus = refl; printed = at_once old new [] _ r k }
+untold NoMemory told s t bus old new r h k = record { events = tt; bus = refl; printed = at_once old new [] [] _ r (omega arith) k }
 untold LeftProfile told s t bus old new r h k = absurd h
 
 ends-by : (told : Result Job Status) (status : Status) (s t : ℕ) (bus : Bus) (old new : Option (List ℕ)) (r : Type 0) → IsOfReading status s t →

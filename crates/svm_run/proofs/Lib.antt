@@ -3,3 +3,5 @@ pub mod Events
 pub mod Received
 pub mod Reports
 pub mod Runs
+pub mod Shown
+pub mod Stops

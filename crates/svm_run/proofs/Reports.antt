@@ -4,7 +4,7 @@ use Rattle.std.specs.Option.{option_map}
 use Rattle.svm_model.specs.Machine.Bus.{Bus, Device}
 use Rattle.svm_model.specs.Machine.Guest.{Guest, level_in}
 use Rattle.svm_model.specs.Formats.Text.{report, events_line, guest_line, vcpu_line, out_lines, guest_lines, vcpu_lines}
-use Rattle.svm_model.specs.Machine.Shapes.{Shape, world_shape, single}
+use Rattle.svm_model.specs.Machine.Shapes.{world_shape, IsSingle}
 use Rattle.svm_model.specs.Machine.World.{World}
 use Rattle.svm_model.specs.declared.names.Ended.{Ended}
 use Rattle.svm_model.specs.declared.ports.PortWrite.{PortWrite}
@@ -13,8 +13,8 @@ use Rattle.svm_model.specs.declared.vcpus.Vcpu.{Vcpu}
 use Rattle.plain_machine.specs.Single.{first_id, guest_in, vcpu_in, vcpu_of}
 use Rattle.svm_run.specs.Outcome.{has_ended, outcome_after}
 
-counts : (w : World) → world_shape w ≡ single → map (λ (g : Guest). length g.vcpus) w.guests ≡ 1 ∷ []
-counts w h = ap (λ (s : Shape). s.vcpus) h
+counts : (w : World) → IsSingle (world_shape w) → map (λ (g : Guest). length g.vcpus) w.guests ≡ 1 ∷ []
+counts w h = h.vcpus
 
 same_test : (t : Bool) → t ≡ (if t then true else false)
 same_test true = refl
@@ -26,7 +26,7 @@ ended_in (g ∷ []) e h s = let same : e ≡ g.ended = cc in ap (λ (o : Option 
 ended_in (g ∷ k ∷ guests) e h s = absurd (cc)
 
 -- whether the one guest was ended
-pub ended_by : (w : World) (e : Option Ended) (t : Bool) → world_shape w ≡ single → option_map (λ g. g.ended) (guest_in w first_id.guest) ≡ Some e → t ≡ is_some e → t ≡ has_ended w.guests
+pub ended_by : (w : World) (e : Option Ended) (t : Bool) → IsSingle (world_shape w) → option_map (λ g. g.ended) (guest_in w first_id.guest) ≡ Some e → t ≡ is_some e → t ≡ has_ended w.guests
 ended_by w e t h s u = u ∙ ended_in w.guests e (counts w h) s
 
 grouped : (a b c d : List ℕ) → a ++ b ++ c ++ d ≡ a ++ (b ++ ((c ++ []) ++ (d ++ [])))
@@ -54,7 +54,7 @@ guest_report (g ∷ []) output e level halted r h s l t u =
     ∙ ap (λ lines. guest_line 0 g.ended ++ (lines ++ (out_lines 0 output ++ []))) (vcpu_report g.vcpus level halted r one l t u)
 guest_report (g ∷ k ∷ guests) output e level halted r h s l t u = absurd (cc)
 
-pub report_of_parts : (w : World) (bus : Bus) (e : Option Ended) (level : ℕ) (halted : Bool) (r : Registers) → world_shape w ≡ single →
+pub report_of_parts : (w : World) (bus : Bus) (e : Option Ended) (level : ℕ) (halted : Bool) (r : Registers) → IsSingle (world_shape w) →
     option_map (λ g. g.ended) (guest_in w first_id.guest) ≡ Some e → option_map (λ v. level_in v.inside) (vcpu_in w first_id) ≡ Some level → option_map (λ v. v.halted) (vcpu_in w first_id) ≡ Some halted →
     option_map (λ v. v.registers) (vcpu_in w first_id) ≡ Some r →
     events_line w.event ++ guest_line 0 e ++ vcpu_line 0 0 level halted r ++ out_lines 0 bus.output ≡ report w bus
@@ -65,7 +65,7 @@ report_of_parts w bus e level halted r h s l t u =
 
 -- the report of a world beside a bus with this output
 pub report_of_bus : (w : World) (bus : Bus) (output : List PortWrite) (text : List ℕ) → output ≡ bus.output →
-    ((devices : List (Option Device)) → text ≡ report w (record { devices = devices; output = output })) → text ≡ (outcome_after (record { world = w; bus = bus })).text
+    ((devices : List (Option Device)) → text ≡ report w (record { devices = devices; output = output })) → text ≡ (outcome_after [] (record { world = w; bus = bus })).text
 unfolding outcome_after
 report_of_bus w bus output text e h = h bus.devices ∙ ap (λ (o : List PortWrite). report w (record { devices = bus.devices; output = o })) e
 

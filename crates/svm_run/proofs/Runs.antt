@@ -1,5 +1,5 @@
 -- What a run of all events leads to, and how many there are.
-use Rattle.std.proofs.Common.{◌≡◌, ◌∙◌, ℕ, ◌+◌, ◌*◌, ◌≤◌, List, length, take, ap, refl, sym, subst, arith}
+use Rattle.std.proofs.Common.{◌≡◌, ◌∙◌, ℕ, ◌+◌, ◌*◌, ◌≤◌, List, [], length, take, ap, refl, sym, subst, arith}
 use Rattle.std.proofs.Math.Seq.{take-length}
 use Rattle.svm_model.specs.Machine.Bus.{Bus}
 use Rattle.svm_model.specs.Formats.Image.{Image}
@@ -12,15 +12,12 @@ use Rattle.svm_run.specs.Jobs.{Job, job}
 use Rattle.svm_run.specs.Outcome.{completed, outcome_after, led_until}
 use Rattle.svm_run.proofs.Events.{led, led_same}
 
-led_parts : (l : Led) → led l.world l.bus ≡ l
-led_parts l = refl
-
--- the machine and the bus stand where the run leads
-pub led-completed : (w v : World) (bus now : Bus) (image : Image) (script : Script) → w ≡ world_of image → v ≡ (plain_run w bus (events_of script)).world →
-    now ≡ (plain_run w bus (events_of script)).bus → outcome_after (led v now) ≡ completed bus (job image script)
-unfolding completed
-led-completed w v bus now image script e f g =
-    ap outcome_after (led_same _ _ _ _ f g ∙ led_parts (plain_run w bus (events_of script)) ∙ ap (λ u. plain_run u bus (events_of script)) e)
+-- the status is that of where the run leads
+pub status-completed : (w v : World) (bus now : Bus) (image : Image) (script : Script) → w ≡ world_of image → v ≡ (plain_run w bus (events_of script)).world →
+    now ≡ (plain_run w bus (events_of script)).bus → (outcome_after [] (led v now)).status ≡ (completed bus (job image script)).status
+unfolding completed outcome_after
+status-completed w v bus now image script e f g =
+    ap (λ (l : Led). (outcome_after [] l).status) (led_same _ _ _ _ f g) ∙ ap (λ u. (outcome_after [] (plain_run u bus (events_of script))).status) e
 
 starts-at-0 : (image : Image) → (world_of image).event ≡ 0
 unfolding world_of

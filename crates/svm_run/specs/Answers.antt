@@ -1,18 +1,18 @@
 -- When an answer of the program is right: by what its status means.
-use Rattle.std.specs.Prelude.{◌≡◌, ◌⊎◌, ◌≤◌, ◌<◌, ℕ, List, [], Option, Some, None, Result, Ok, Err, length, slice_get, take}
+use Rattle.std.specs.Prelude.{◌≡◌, ◌⊎◌, ◌≤◌, ◌<◌, ◌-◌, ℕ, List, [], Option, Some, None, Result, Ok, Err, length, slice_get, take}
 use Rattle.byte_shelf.specs.Sink.{appended, IsCutShort}
 use Rattle.fault_counts.specs.Causes.{Rose}
 use Rattle.svm_model.specs.Machine.Bus.{Bus}
 use Rattle.svm_model.specs.Formats.Script.{events_of}
-use Rattle.svm_model.specs.Machine.Runs.{HandsOver, plain_run}
+use Rattle.svm_model.specs.Machine.Runs.{HandsOver}
 use Rattle.svm_model.specs.Machine.World.{World}
 use Rattle.svm_model.specs.declared.names.Event.{Event}
 use Rattle.svm_model.specs.declared.names.RunEnd.TheVariants.{Device}
 use Rattle.port_bus.specs.Causes.{Blames}
 use Rattle.svm_run.specs.Jobs.{Job}
-use Rattle.svm_run.specs.Outcome.{led_until, text_until}
+use Rattle.svm_run.specs.Outcome.{events_text, led_until, text_until}
 use Rattle.svm_run.specs.StatusLine.{status_line}
-use Rattle.svm_run.specs.Statuses.{EventsRun, NoEvents, FirstEvents, NotAllEvents, AllEvents, Printed, WholeText, PartOfText, TextThenLine, PartThenLine, LineAlone, Blame, NothingOutside, TheShelf, TheSink, TheDevice, WantOfMemory, Meaning, meaning_of}
+use Rattle.svm_run.specs.Statuses.{EventsRun, NoEvents, FirstEvents, NotAllEvents, EventsToLine, AllEvents, Printed, WholeText, PartOfText, TextThenLine, PartThenLine, LineAlone, Blame, NothingOutside, TheShelf, TheSink, TheDevice, WantOfMemory, Meaning, meaning_of}
 use Rattle.svm_run.specs.declared.status.Status.{Status}
 use Rattle.svm_run.specs.declared.status.Status.TheVariants.{Input, OutsideFault, NoMemory}
 use Rattle.svm_run.specs.declared.status.OutsideFault.TheVariants.{Read}
@@ -23,17 +23,26 @@ use Rattle.svm_run.specs.declared.status.OutsideFault.TheVariants.{Read}
 abbrev pub ReceivesLine : Option (List ℕ) → Option (List ℕ) → List ℕ → Type 0 → Type 0
 ReceivesLine old new line refused = (new ≡ appended old line) ⊎ (IsCutShort old new line × refused)
 
--- a first part of a text was received, and then a line as above
-pub record ReceivesPart (old new : Option (List ℕ)) (text line : List ℕ) (refused : Type 0) : Type 0 where
+-- a first part of a text was received, and not all of it, but all of what it begins with
+pub record IsCutBehind (old new : Option (List ℕ)) (before text : List ℕ) : Type 0 where
   pub count : ℕ
+  pub behind : length before ≤ count
+  pub short : count < length text
+  pub written : new ≡ appended old (take count text)
+
+-- a first part of a text was received, with all of what it begins with, and then a line as above
+pub record ReceivesPart (old new : Option (List ℕ)) (before text line : List ℕ) (refused : Type 0) : Type 0 where
+  pub count : ℕ
+  pub behind : length before ≤ count
   pub line_after : ReceivesLine (appended old (take count text)) new line refused
 
-abbrev pub Receives : Printed → (text line : List ℕ) → (old new : Option (List ℕ)) → Type 0 → Type 0
-Receives WholeText text line old new refused = new ≡ appended old text
-Receives PartOfText text line old new refused = IsCutShort old new text
-Receives TextThenLine text line old new refused = ReceivesLine (appended old text) new line refused
-Receives PartThenLine text line old new refused = ReceivesPart old new text line refused
-Receives LineAlone text line old new refused = ReceivesLine old new line refused
+-- what was received of a text, which begins with what the events before the last print
+abbrev pub Receives : Printed → (before text line : List ℕ) → (old new : Option (List ℕ)) → Type 0 → Type 0
+Receives WholeText before text line old new refused = new ≡ appended old text
+Receives PartOfText before text line old new refused = IsCutBehind old new before text
+Receives TextThenLine before text line old new refused = ReceivesLine (appended old text) new line refused
+Receives PartThenLine before text line old new refused = ReceivesPart old new before text line refused
+Receives LineAlone before text line old new refused = ReceivesLine old new line refused
 
 -- How far the run came.
 
@@ -42,19 +51,12 @@ abbrev pub IsReached : EventsRun → (count all : ℕ) → Type 0
 IsReached NoEvents count all = count ≡ 0
 IsReached FirstEvents count all = count ≤ all
 IsReached NotAllEvents count all = count < all
+IsReached EventsToLine count all = count ≤ all
 IsReached AllEvents count all = count ≡ all
 
 abbrev pub HandsOverIt : World → Bus → Option Event → Type 0
 HandsOverIt w bus None = ⊥
 HandsOverIt w bus (Some event) = (call : ℕ) × HandsOver call w bus event
-
--- A list of events was run up to one that was refused: the bus is behind so many of the first, and the next one hands
--- something to it.
-pub record IsCutAt (world : World) (events : List Event) (before after : Bus) : Type 0 where
-  pub count : ℕ
-  pub short : count < length events
-  pub bus : after ≡ (plain_run world before (take count events)).bus
-  pub refused : HandsOverIt (plain_run world before (take count events)).world after (slice_get events count)
 
 -- the event of this number, which was refused, hands something to the bus; any other way to end has no such event
 abbrev pub IsRefusedAt : EventsRun → ℕ → Bus → Job → Type 0
@@ -68,20 +70,21 @@ pub record EndsRun (m : Meaning) (line : List ℕ) (job : Job) (before after : B
   pub reached : IsReached m.events count (length (events_of job.script))
   pub refused_at : IsRefusedAt m.events count before job
   pub bus : after ≡ (led_until count before job).bus
-  pub printed : Receives m.printed (text_until count before job) line old new refused
+  pub printed : Receives m.printed (events_text (count - 1) before job) (text_until count before job) line old new refused
 
 -- the program may end so before it has a job
 abbrev pub MayPrecede : EventsRun → Type 0
 MayPrecede NoEvents = Unit {0}
 MayPrecede FirstEvents = Unit {0}
 MayPrecede NotAllEvents = ⊥
+MayPrecede EventsToLine = ⊥
 MayPrecede AllEvents = ⊥
 
 -- there is no job, so that no event was run and only the line may have been printed
 pub record EndsUnrun (m : Meaning) (line : List ℕ) (before after : Bus) (old new : Option (List ℕ)) (refused : Type 0) : Type 0 where
   pub events : MayPrecede m.events
   pub bus : after ≡ before
-  pub printed : Receives m.printed [] line old new refused
+  pub printed : Receives m.printed [] [] line old new refused
 
 -- what a status leaves behind: the bus, and what the sink received
 abbrev pub Ends : Status → Result Job Status → (before after : Bus) → (old new : Option (List ℕ)) → Type 0 → Type 0

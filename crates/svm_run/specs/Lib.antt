@@ -3,4 +3,5 @@ pub mod Jobs
 pub mod Outcome
 pub mod StatusLine
 pub mod Statuses
+pub mod Stops
 pub mod Words

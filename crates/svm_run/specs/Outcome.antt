@@ -1,13 +1,16 @@
 -- What the program answers and prints where nothing outside fails and memory is ample, and how far a run is after some
 -- events.
-use Rattle.std.specs.Prelude.{ℕ, ◌==◌, List, [], ◌∷◌, Bool, true, false, if◌then◌else◌, Option, Result, Ok, Err, is_some, length, take}
+use Rattle.std.specs.Prelude.{ℕ, ◌==◌, List, [], ◌∷◌, Bool, true, false, if◌then◌else◌, Option, Some, None, Result, Ok, Err, is_some, length, take, drop, slice_get}
 use Rattle.byte_shelf.specs.Shelf.{Files}
 use Rattle.svm_model.specs.Machine.Bus.{Bus}
 use Rattle.svm_model.specs.Machine.Guest.{Guest}
 use Rattle.svm_model.specs.Formats.Script.{events_of}
-use Rattle.svm_model.specs.Formats.Text.{report}
+use Rattle.svm_model.specs.Formats.Text.{◌⧺◌, dump_line, report}
+use Rattle.svm_model.specs.Machine.Events.{plain_event}
 use Rattle.svm_model.specs.Machine.Runs.{Led, plain_run}
-use Rattle.svm_model.specs.Machine.World.{world_of}
+use Rattle.svm_model.specs.Machine.World.{World, world_of}
+use Rattle.svm_model.specs.declared.names.Event.{Event}
+use Rattle.svm_model.specs.declared.names.Event.TheVariants.{Dump}
 use Rattle.svm_run.specs.Jobs.{Job, job_of}
 use Rattle.svm_run.specs.StatusLine.{status_line}
 use Rattle.svm_run.specs.declared.status.Status.{Status}
@@ -29,18 +32,38 @@ abbrev pub has_ended : List Guest → Bool
 has_ended [] = false
 has_ended (guest ∷ guests) = if is_some guest.ended then true else has_ended guests
 
--- all events were run, and led here
-unfoldable pub outcome_after : Led → Outcome
-outcome_after led = record {
+-- What is printed in a run: the line of each dump at its event, and the report behind the last.
+
+abbrev pub memory_of : Option Guest → List ℕ
+memory_of None = []
+memory_of (Some guest) = guest.memory
+
+-- what an event prints in the world that it finds: a dump the bytes of the guest's memory
+unfoldable pub event_text : World → Event → List ℕ
+event_text w (Dump guest address length) =
+    dump_line w.event guest.0 address (take length (drop address (memory_of (slice_get w.guests guest.0))))
+event_text w _ = []
+
+-- what the events of a list print, one after another
+unfoldable pub texts_of : World → Bus → List Event → List ℕ
+texts_of w bus [] = []
+texts_of w bus (event ∷ events) = event_text w event ⧺ texts_of (plain_event w bus event).world (plain_event w bus event).bus events
+
+-- all events were run, have printed this and led here
+unfoldable pub outcome_after : List ℕ → Led → Outcome
+outcome_after text led = record {
   status = if has_ended led.world.guests then LeftProfile else Done;
-  text = report led.world led.bus;
+  text = text ⧺ report led.world led.bus;
   events = led.world.event;
   bus = led.bus;
 }
 
 -- all events of a job are run
 unfoldable pub completed : Bus → Job → Outcome
-completed bus job = outcome_after (plain_run (world_of job.image) bus (events_of job.script))
+completed bus job =
+    let w = world_of job.image in
+    let events = events_of job.script in
+    outcome_after (texts_of w bus events) (plain_run w bus events)
 
 abbrev pub outcome_by : Bus → Result Job Status → Outcome
 outcome_by bus (Err status) = refused bus status
@@ -54,6 +77,10 @@ outcome_of bus files words = outcome_by bus (job_of files words)
 unfoldable pub led_until : ℕ → Bus → Job → Led
 led_until count bus job = plain_run (world_of job.image) bus (take count (events_of job.script))
 
--- What a run prints until so many of its events are done: the report behind the last, and nothing before.
+-- what these events print
+unfoldable pub events_text : ℕ → Bus → Job → List ℕ
+events_text count bus job = texts_of (world_of job.image) bus (take count (events_of job.script))
+
+-- what a run prints until so many of its events are done: behind the last of all the report too
 unfoldable pub text_until : ℕ → Bus → Job → List ℕ
-text_until count bus job = if count == length (events_of job.script) then (completed bus job).text else []
+text_until count bus job = if count == length (events_of job.script) then (completed bus job).text else events_text count bus job

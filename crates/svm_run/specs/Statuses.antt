@@ -12,16 +12,18 @@ pub data EventsRun : Type 0 where
   FirstEvents : EventsRun
   -- so many of the first, and not all: the next one was refused
   NotAllEvents : EventsRun
+  -- so many of the first, up to the one whose line was not wholly received; or all, where the report was not
+  EventsToLine : EventsRun
   AllEvents : EventsRun
 
 -- What was printed. The text is that of the events that were run; the line is that of the status, or a part of it where
--- the sink refused.
+-- the sink refused. A part of the text is a first part, and has all that the events before the last print.
 pub data Printed : Type 0 where
   WholeText : Printed
-  -- a first part of the text, and not all of it
+  -- a part of the text, and not all of it
   PartOfText : Printed
   TextThenLine : Printed
-  -- a first part of the text, maybe all of it, and then the line
+  -- a part of the text, maybe all of it, and then the line
   PartThenLine : Printed
   LineAlone : Printed
 
@@ -49,7 +51,7 @@ meaning_of Done = meaning 0 AllEvents WholeText NothingOutside
 meaning_of Words = meaning 1 NoEvents LineAlone NothingOutside
 meaning_of (Input fault) = meaning 2 NoEvents LineAlone NothingOutside
 meaning_of (OutsideFault Read) = meaning 4 NoEvents LineAlone TheShelf
-meaning_of (OutsideFault Write) = meaning 4 AllEvents PartOfText TheSink
+meaning_of (OutsideFault Write) = meaning 4 EventsToLine PartOfText TheSink
 meaning_of (OutsideFault (Device device)) = meaning 4 NotAllEvents TextThenLine (TheDevice device)
 meaning_of NoMemory = meaning 5 FirstEvents PartThenLine WantOfMemory
 meaning_of LeftProfile = meaning 6 AllEvents WholeText NothingOutside

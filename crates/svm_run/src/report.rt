@@ -2,7 +2,7 @@
 ghost use Rattle.std.specs.Prelude.{◌≡◌, ◌++◌, Bool, List, Option, IfOk};
 ghost use Rattle.svm_model.specs.Machine.Bus.{Device};
 ghost use Rattle.svm_model.specs.Formats.Text.{report as report_of};
-ghost use Rattle.svm_model.specs.Machine.Shapes.{world_shape, single};
+ghost use Rattle.svm_model.specs.Machine.Shapes.{world_shape, IsSingle};
 ghost use Rattle.svm_run.specs.Outcome.{has_ended as ended_test};
 
 use plain_machine::PlainMachine;
@@ -35,7 +35,7 @@ pub fn report(
     machine: &PlainMachine,
     output: &[PortWrite],
 ) -> Result<Vec<u8>, NoMemory>
-    requires { world_shape machine.now.world ≡ single }
+    requires { IsSingle (world_shape machine.now.world) }
     ensures { (devices : List (Option Device)) →
         IfOk result (λ text. text.items ≡ report_of machine.now.world (record { devices = devices; output = output.now })) }
 {
@@ -53,7 +53,7 @@ pub fn report(
 
 /// Whether the guest was ended.
 pub fn has_ended(machine: &PlainMachine) -> bool
-    requires { world_shape machine.now.world ≡ single }
+    requires { IsSingle (world_shape machine.now.world) }
     ensures { result ≡ ended_test machine.now.world.guests }
 {
     machine.end_of(GUEST).is_some()

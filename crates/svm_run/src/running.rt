@@ -1,27 +1,86 @@
-// Runs a script's events on the machine.
-ghost use Rattle.std.specs.Prelude.{◌≡◌, ◌+◌, ◌*◌, ◌≤◌, false, length, OnOk, OnErr, IfErr};
+// Runs a script's events on the machine, and prints their lines.
+ghost use Rattle.std.specs.Prelude.{◌≡◌, ◌+◌, ◌*◌, ◌≤◌, ◌<◌, false, length, OnOk, IfErr};
+ghost use Rattle.byte_shelf.specs.Sink.{appended};
 ghost use Rattle.svm_model.specs.Formats.Script.{IsLawful, events_of};
+ghost use Rattle.svm_model.specs.Machine.Events.{plain_event};
 ghost use Rattle.svm_model.specs.Machine.Runs.{plain_run};
-ghost use Rattle.svm_model.specs.Machine.Shapes.{world_shape};
-ghost use Rattle.port_bus.specs.Causes.{Blames, NoneFell};
-ghost use Rattle.svm_run.specs.Answers.{IsCutAt};
+ghost use Rattle.svm_model.specs.Machine.Shapes.{world_shape, IsNamed};
+ghost use Rattle.port_bus.specs.Causes.{NoneFell};
+ghost use Rattle.svm_run.specs.Outcome.{event_text, texts_of};
+ghost use Rattle.svm_run.specs.Stops.{EndsEvent, EndsEvents, IsOfCounts};
 
+use crate::dumps::text_of;
+use byte_shelf::{Sink, SinkRefusal, write_all};
 use host_memory::Steps;
 use plain_machine::PlainMachine;
 use port_bus::{Ports, RunEnd};
 use script_format::Script;
+use std::alloc::Global;
 use std::sync::ledger::Ledger;
+use vm_names::Event;
 
-/// Runs the events of a script, all of them or up to the first that the bus refuses. At most 896 reads are
-/// counted for each.
+/// Why a run of events ends before all of them are done and printed. No event comes behind it.
+#[derive(Clone, Copy)]
+pub enum RunFault {
+    /// There was no memory for what an event prints, and the event was not done.
+    NoMemory,
+    /// The bus refused what an event handed it.
+    Bus(RunEnd),
+    /// The event was done, and the sink refused what it prints.
+    Sink(SinkRefusal),
+}
+
+/// Does an event, and prints what it prints. At most 896 reads are counted.
+#[tactic(auto, using(crate::proofs::Stops::stops, port_bus::proofs::Counts::counts))]
+fn run_event<B: Ports, K: Sink, L: Ledger>(
+    alloc: Global,
+    machine: &mut PlainMachine,
+    event: Event,
+    bus: &mut B,
+    sink: &mut K,
+    steps: &mut Steps<L>,
+) -> Result<(), RunFault>
+    requires named { IsNamed (world_shape machine.old.world) event }
+    requires few { machine.old.world.event < 1048576 }
+    requires going { machine.old.stopped ≡ false }
+    ensures world { OnOk result (machine.new.world ≡ (plain_event machine.old.world (B.bus bus.old) event).world) }
+    ensures bus { OnOk result (B.bus bus.new ≡ (plain_event machine.old.world (B.bus bus.old) event).bus) }
+    ensures printed { OnOk result (K.written sink.new ≡ appended (K.written sink.old) (event_text machine.old.world event)) }
+    ensures ended { IfErr result (λ fault. EndsEvent fault machine.old.world event (B.bus bus.old) (B.bus bus.new) (K.written sink.old) (K.written sink.new)) }
+    ensures cause { IfErr result (λ fault. IsOfCounts fault (B.faults bus.old) (B.faults bus.new) (K.faults sink.old) (K.faults sink.new)) }
+    ensures none_fell { NoneFell (B.faults bus.old) (B.faults bus.new) }
+    ensures shape { world_shape machine.new.world ≡ world_shape machine.old.world }
+    ensures number { OnOk result (machine.new.world.event ≡ machine.old.world.event + 1) }
+    ensures going { OnOk result (machine.new.stopped ≡ false) }
+    ensures steps { steps.new ≤ steps.old + 896 }
+    ensures later { steps.old ≤ steps.new }
+    ensures later_faults { K.faults sink.old ≤ K.faults sink.new }
+    ensures later_refusals { K.refusals sink.old ≤ K.refusals sink.new }
+{
+    let Ok(text) = text_of(alloc, machine, event, steps) else {
+        return Err(RunFault::NoMemory);
+    };
+    if let Err(end) = machine.event(event, bus, steps) {
+        return Err(RunFault::Bus(end));
+    }
+    match write_all(sink, &text) {
+        Ok(()) => Ok(()),
+        Err(refusal) => Err(RunFault::Sink(refusal)),
+    }
+}
+
+/// Runs the events of a script and prints the line of each dump as it comes: all of them, or up to the first that the bus
+/// refuses, whose text there is no memory for, or whose line the sink refuses. At most 896 reads are counted for each.
 #[tactic(auto, using(crate::proofs::Events::events, port_bus::proofs::Counts::counts))]
-pub fn run_events<B: Ports, L: Ledger>(
+pub fn run_events<B: Ports, K: Sink, L: Ledger>(
+    alloc: Global,
     machine: &mut PlainMachine,
     script: &Script,
     cpus: u8,
     bus: &mut B,
+    sink: &mut K,
     steps: &mut Steps<L>,
-) -> Result<(), RunEnd>
+) -> Result<(), RunFault>
     requires lawful { IsLawful (world_shape machine.old.world) script.now }
     requires cpus { (world_shape machine.old.world).cpus ≡ cpus }
     requires count { length (events_of script.now) ≡ script.now.events }
@@ -29,19 +88,23 @@ pub fn run_events<B: Ports, L: Ledger>(
     requires going { machine.old.stopped ≡ false }
     ensures world { OnOk result (machine.new.world ≡ (plain_run machine.old.world (B.bus bus.old) (events_of script.now)).world) }
     ensures bus { OnOk result (B.bus bus.new ≡ (plain_run machine.old.world (B.bus bus.old) (events_of script.now)).bus) }
-    ensures cut { OnErr result (IsCutAt machine.old.world (events_of script.now) (B.bus bus.old) (B.bus bus.new)) }
-    ensures blamed { IfErr result (λ end. Blames end (B.faults bus.old) (B.faults bus.new)) }
+    ensures printed { OnOk result (K.written sink.new ≡ appended (K.written sink.old) (texts_of machine.old.world (B.bus bus.old) (events_of script.now))) }
+    ensures ended { IfErr result (λ fault. EndsEvents fault machine.old.world (events_of script.now) (B.bus bus.old) (B.bus bus.new) (K.written sink.old) (K.written sink.new)) }
+    ensures cause { IfErr result (λ fault. IsOfCounts fault (B.faults bus.old) (B.faults bus.new) (K.faults sink.old) (K.faults sink.new)) }
     ensures shape { world_shape machine.new.world ≡ world_shape machine.old.world }
     ensures number { OnOk result (machine.new.world.event ≡ script.now.events) }
     ensures steps { steps.new ≤ steps.old + 896 * script.now.events }
     ensures later { steps.old ≤ steps.new }
+    ensures later_faults { K.faults sink.old ≤ K.faults sink.new }
+    ensures later_refusals { K.refusals sink.old ≤ K.refusals sink.new }
 {
     for number in 0..script.events {
-        match script.event_at(number, cpus) {
-            Some(event) => {
-                machine.event(event, bus, steps)?;
-            }
-            None => unreachable!(),
+        let Some(event) = script.event_at(number, cpus) else {
+            unreachable!();
+        };
+        match run_event(alloc, machine, event, bus, sink, steps) {
+            Ok(()) => {}
+            Err(fault) => return Err(fault),
         }
     }
     Ok(())

@@ -1,7 +1,7 @@
 // Jobs over a shelf and a sink in memory, some of whose calls fail. The texts are worked out by hand from the formats.
 ghost use Rattle.std.specs.Prelude.{◌≡◌, ◌<◌, true, false, length};
 ghost use Rattle.svm_model.specs.Formats.LawfulImages.{IsLawfulImage};
-ghost use Rattle.svm_model.specs.Machine.Shapes.{is_offered, single, world_shape};
+ghost use Rattle.svm_model.specs.Machine.Shapes.{is_offered, world_shape, IsSingle};
 
 use crate::inputs::accept_image;
 use crate::status::{InputFault, OutsideFault, Status};
@@ -20,10 +20,10 @@ use std::test::Fail;
 use svm_model::RunEnd;
 use vm_names::{CpuId, Event, GuestId, NoMemory, VcpuId};
 
-/// The header of an image and of its guest: 16 pages, one vcpu, five segments.
+/// The header of an image and of its guest: 16 pages, one vcpu, eight segments.
 const HEADER: [u8; 32] = [
     0x53, 0x56, 0x4d, 0x49, 0x4d, 0x41, 0x47, 0x45, 1, 0, 1, 1, 0, 0, 0, 0, //
-    1, 0, 0, 0, 16, 0, 0, 0, 5, 0, 0, 0, 0, 0, 0, 0,
+    1, 0, 0, 0, 16, 0, 0, 0, 8, 0, 0, 0, 0, 0, 0, 0,
 ];
 
 fn push_segment(image: &mut Vec<u8>, address: u16, bytes: &[u8]) -> Result<(), AllocError>
@@ -35,14 +35,16 @@ fn push_segment(image: &mut Vec<u8>, address: u16, bytes: &[u8]) -> Result<(), A
     image.extend_from_slice(bytes)
 }
 
-/// A job: its words, the vcpu's RIP and the code there, the table entry of linear page 6, the script, and the calls of
-/// the shelf, the sink and device 1 that fail. Linear page 5 is mapped to frame 5.
+/// A job: its words, the vcpu's RIP and the code there, the table entry of linear page 6, whether the vcpu has descriptors and
+/// a gate of page faults there, the script, and the calls of the shelf, the sink and device 1 that fail. Linear page 5 is
+/// mapped to frame 5, which has the handler, HLT, at 5800h; with the gate RSP is 7000h.
 #[derive(Clone, Copy)]
 struct Job<'a> {
     words: &'a [&'a str],
     rip: u16,
     code: &'a [u8],
     entry: u32,
+    gates: bool,
     script: &'a str,
     shelf_fails: Option<u64>,
     sink_fails: Option<u64>,
@@ -60,6 +62,14 @@ fn image_of(alloc: Global, job: Job<'_>) -> Result<Vec<u8>, AllocError>
     vcpu[8] = low;
     vcpu[9] = high;
     vcpu[24] = 2;
+    if job.gates {
+        // RSP, GDTR at 6800h and IDTR at 6000h, and their limits.
+        vcpu[17] = 0x70;
+        vcpu[33] = 0x68;
+        vcpu[41] = 0x60;
+        vcpu[56] = 0x17;
+        vcpu[58] = 0xff;
+    }
     image.extend_from_slice(&vcpu)?;
     let [a, b, c, d] = job.entry.to_le_bytes();
     push_segment(&mut image, 0x1000, &[7, 0x20, 0, 0, 0, 0, 0, 0])?;
@@ -67,6 +77,11 @@ fn image_of(alloc: Global, job: Job<'_>) -> Result<Vec<u8>, AllocError>
     push_segment(&mut image, 0x3000, &[7, 0x40, 0, 0, 0, 0, 0, 0])?;
     let entries = [7, 0x50, 0, 0, 0, 0, 0, 0, a, b, c, d, 0, 0, 0, 0];
     push_segment(&mut image, 0x4028, &entries)?;
+    // A gate of page faults to 5800h by selector 8; code and data of level 0; and the handler.
+    push_segment(&mut image, 0x60e0, &[0, 0x58, 8, 0, 0, 0x8e, 0, 0])?;
+    let descriptors = [0, 0, 0, 0, 0, 0x9a, 0x20, 0, 0, 0, 0, 0, 0, 0x92, 0, 0];
+    push_segment(&mut image, 0x6808, &descriptors)?;
+    push_segment(&mut image, 0x5800, &[0xf4])?;
     push_segment(&mut image, job.rip, job.code)?;
     Ok(image)
 }
@@ -78,6 +93,7 @@ const HALT: Job<'static> = Job {
     rip: 0x5000,
     code: &[0xf4],
     entry: 0x6007,
+    gates: false,
     script: "place 0 0 0\nrun 0 1\n",
     shelf_fails: None,
     sink_fails: None,
@@ -106,14 +122,14 @@ fn shelf_of(alloc: Global, job: Job<'_>) -> Result<MemoryShelf, AllocError>
     Ok(MemoryShelf::new(names, files, calls(alloc, job.shelf_fails)?))
 }
 
-/// The status of a job, and what the sink has received.
+/// The status of a job, what the sink has received, and how many writes to ports went out.
 fn done<L: Ledger, M: Ledger>(
     rt: &impl Abort,
     alloc: Global,
     job: Job<'_>,
     reads: Blank,
     entries: Blank,
-) -> Result<(Status, MemorySink), AllocError>
+) -> Result<(Status, MemorySink, usize), AllocError>
     requires code { length job.code.now < 256 }
     requires reads { reads.name ≡ L.name }
     requires read_parts { reads.parts ≡ L.parts }
@@ -144,7 +160,7 @@ fn done<L: Ledger, M: Ledger>(
         &mut steps,
         &mut entries,
     );
-    Ok((status, sink))
+    Ok((status, sink, bus.writes().len()))
 }
 
 const RIGHT: &str =
@@ -343,7 +359,7 @@ fn jobs_end_as_the_formats_say(rt: HostRuntime) -> Result<(), Fail> {
     for (job, status, text) in table {
         let code = job.code;
         assert!(rt; code.len() < 256);
-        let (found, sink) = done::<Brand, Brand>(
+        let (found, sink, _writes) = done::<Brand, Brand>(
             &rt,
             rt.alloc(),
             job,
@@ -352,6 +368,119 @@ fn jobs_end_as_the_formats_say(rt: HostRuntime) -> Result<(), Fail> {
         )?;
         assert!(rt; found == status, "{found:?}");
         assert!(rt; sink.bytes() == text.as_bytes(), "{text}");
+    }
+    Ok(())
+}
+
+#[test]
+fn dumps_are_printed_at_their_events(rt: HostRuntime) -> Result<(), Fail> {
+    let outs = Job {
+        code: &[0xe6, 0x10, 0xe6, 0x10, 0xf4],
+        ..HALT
+    };
+    let table = [
+        // In the midst and at the end: the fetch has set the A bit of the entry.
+        (
+            Job {
+                script: "place 0 0 0\ndump 0 0x4028 8\nrun 0 1\ndump 0 0x4028 0x9\n",
+                ..HALT
+            },
+            Status::Done,
+            "dump event=1 guest=0 at=4028 bytes=0750000000000000\ndump event=3 guest=0 at=4028 bytes=275000000000000007\nevents 4\nguest 0 live\nvcpu 0.0 l1 halted rip=5001 rfl=2 cr0=80010033 cr3=1000 cr4=a0 efer=d00\n",
+            0,
+        ),
+        // Of a guest that was ended.
+        (
+            Job {
+                code: &[0x0f, 0xff],
+                script: "dump 0 65535 1\nplace 0 0 0\nrun 0 1\ndump 0 0x5000 2\n",
+                ..HALT
+            },
+            Status::LeftProfile,
+            "dump event=0 guest=0 at=ffff bytes=00\ndump event=3 guest=0 at=5000 bytes=0fff\nevents 4\nguest 0 ended Unlisted value=ff vcpu=0 event=2\nvcpu 0.0 l1 ready rip=5000 rfl=2 cr0=80010033 cr3=1000 cr4=a0 efer=d00\n",
+            0,
+        ),
+        // What a page fault pushes: its code, RIP, CS, RFLAGS, RSP and SS.
+        (
+            Job {
+                code: &[0x48, 0x8b, 0x04, 0x25, 0x00, 0x90, 0x00, 0x00],
+                gates: true,
+                script: "place 0 0 0\nrun 0 1\ndump 0 0x6fd0 48\nrun 0 1\n",
+                ..HALT
+            },
+            Status::Done,
+            "dump event=2 guest=0 at=6fd0 bytes=000000000000000000500000000000000800000000000000020000000000000000700000000000001000000000000000\nevents 4\nguest 0 live\nvcpu 0.0 l1 halted rip=5801 rfl=2 rsp=6fd0 cr0=80010033 cr2=9000 cr3=1000 cr4=a0 efer=d00\n",
+            0,
+        ),
+        // A device that fails behind a dump.
+        (
+            Job {
+                script: "place 0 0 0\nrun 0 1\ndump 0 0x5000 1\nrun 0 1\n",
+                device_fails: Some(1),
+                ..outs
+            },
+            Status::OutsideFault(OutsideFault::Device { device: 1 }),
+            "dump event=2 guest=0 at=5000 bytes=e6\nfault device 1\n",
+            1,
+        ),
+        // The sink fails at the first dump, at the second, and at the report.
+        (
+            Job {
+                script: "place 0 0 0\nrun 0 1\ndump 0 0x5000 1\nrun 0 2\n",
+                sink_fails: Some(0),
+                ..outs
+            },
+            Status::OutsideFault(OutsideFault::Write),
+            "",
+            1,
+        ),
+        (
+            Job {
+                script: "place 0 0 0\ndump 0 0 1\nrun 0 1\ndump 0 0x5001 1\nrun 0 1\ndump 0 0 1\n",
+                sink_fails: Some(1),
+                ..outs
+            },
+            Status::OutsideFault(OutsideFault::Write),
+            "dump event=1 guest=0 at=0 bytes=00\n",
+            1,
+        ),
+        (
+            Job {
+                script: "place 0 0 0\nrun 0 2\ndump 0 0x5000 4\n",
+                sink_fails: Some(1),
+                ..outs
+            },
+            Status::OutsideFault(OutsideFault::Write),
+            "dump event=3 guest=0 at=5000 bytes=e610e610\n",
+            2,
+        ),
+        // Of a refused script nothing is run.
+        (
+            Job {
+                script: "dump 0 0 1\ndump 0 0x10000 1\n",
+                ..HALT
+            },
+            Status::Input(InputFault::Script {
+                line: 2,
+                reason: ScriptReason::Address,
+            }),
+            "refused script line=2 reason=Address\n",
+            0,
+        ),
+    ];
+    for (job, status, text, writes) in table {
+        let code = job.code;
+        assert!(rt; code.len() < 256);
+        let (found, sink, written) = done::<Brand, Brand>(
+            &rt,
+            rt.alloc(),
+            job,
+            Blank::new(1),
+            Blank::new(1),
+        )?;
+        assert!(rt; found == status, "{found:?}");
+        assert!(rt; sink.bytes() == text.as_bytes(), "{text}");
+        assert!(rt; written == writes, "{text}");
     }
     Ok(())
 }
@@ -489,7 +618,7 @@ fn programs_run_as_the_manual_says(rt: HostRuntime) -> Result<(), Fail> {
     for (job, status, text) in table {
         let code = job.code;
         assert!(rt; code.len() < 256);
-        let (found, sink) = done::<Brand, Brand>(
+        let (found, sink, _writes) = done::<Brand, Brand>(
             &rt,
             rt.alloc(),
             job,
@@ -514,10 +643,10 @@ fn take_a_turn<B: Ports, L: Ledger>(
     bus: &mut B,
     steps: &mut Steps<L>,
 )
-    requires shape { world_shape machine.old.world ≡ single }
+    requires shape { IsSingle (world_shape machine.old.world) }
     requires first { machine.old.world.event ≡ 0 }
     requires going { machine.old.stopped ≡ false }
-    ensures { world_shape machine.new.world ≡ single }
+    ensures { IsSingle (world_shape machine.new.world) }
 {
     let cpu = CpuId(0);
     let placed = machine.event(Event::Place { cpu, vcpu: VCPU }, bus, steps);
@@ -535,7 +664,7 @@ fn is_refused<B: Ports, L: Ledger>(
     bus: &mut B,
     steps: &mut Steps<L>,
 )
-    requires shape { world_shape machine.old.world ≡ single }
+    requires shape { IsSingle (world_shape machine.old.world) }
     requires first { machine.old.world.event ≡ 0 }
     requires going { machine.old.stopped ≡ false }
 {
@@ -555,7 +684,7 @@ fn is_refused<B: Ports, L: Ledger>(
 
 /// The vcpu has halted, and the entry that its fetch used has its accessed bit.
 fn has_halted<L: Ledger>(rt: &impl Abort, machine: &PlainMachine, steps: &mut Steps<L>)
-    requires { world_shape machine.now.world ≡ single }
+    requires { IsSingle (world_shape machine.now.world) }
 {
     assert!(rt; machine.is_halted(VCPU));
     assert!(rt; machine.level(VCPU) == 1);

@@ -1,20 +1,21 @@
 // The top call: what the program does with its words.
-ghost use Rattle.std.specs.Prelude.{◌≡◌, ◌⊎◌, ◌≤◌, ◌+◌, ◌*◌, true, length, map, List, Option, ℕ, None, IfSome};
+ghost use Rattle.std.specs.Prelude.{◌≡◌, ◌⊎◌, ◌≤◌, ◌+◌, ◌*◌, true, length, map, [], List, Option, ℕ, None, IfSome};
 ghost use Rattle.fault_counts.specs.Causes.{Rose};
 ghost use Rattle.svm_model.specs.Formats.LawfulImages.{IsLawfulImage};
 ghost use Rattle.svm_model.specs.Formats.Script.{IsLawful, events_of};
-ghost use Rattle.svm_model.specs.Machine.Shapes.{image_shape, world_shape, single, is_offered as offered_test};
+ghost use Rattle.svm_model.specs.Machine.Shapes.{image_shape, world_shape, IsSingle, is_offered as offered_test};
 ghost use Rattle.svm_run.specs.Answers.{Ends, EndsRun, HasCause, IsBeforeRun, IsDetermined, IsReached, IsRefusedAt, Receives, ReceivesLine};
 ghost use Rattle.svm_run.specs.Jobs.{job, job_of, Job};
 ghost use Rattle.svm_run.specs.Outcome.{outcome_of, outcome_after, completed};
 ghost use Rattle.svm_run.specs.StatusLine.{status_line};
 ghost use Rattle.svm_run.specs.Statuses.{meaning_of};
+ghost use Rattle.svm_run.specs.Stops.{status_of};
 ghost use Rattle.svm_run.specs.Words.{names_of};
 ghost use Rattle.svm_model.specs.Machine.Bus.{Bus as BusRecord};
 
 use crate::inputs::{open_image, open_script};
 use crate::report::{has_ended, report};
-use crate::running::run_events;
+use crate::running::{RunFault, run_events};
 use crate::status::{OutsideFault, Status};
 use crate::status_line::line_of;
 use crate::words::names;
@@ -46,12 +47,12 @@ fn refuse<K: Sink>(sink: &mut K, status: Status) -> Status
 /// Prints the report of a machine that has run all events.
 #[tactic(auto, using(crate::proofs::Received::received), unfolding(crate::specs::Outcome::outcome_after))]
 fn finish<B: Ports, K: Sink>(alloc: Global, machine: &PlainMachine, bus: &B, sink: &mut K) -> Status
-    requires { world_shape machine.now.world ≡ single }
-    ensures exact { IsDetermined result → result ≡ (outcome_after (record { world = machine.now.world; bus = B.bus bus.now })).status }
+    requires { IsSingle (world_shape machine.now.world) }
+    ensures exact { IsDetermined result → result ≡ (outcome_after [] (record { world = machine.now.world; bus = B.bus bus.now })).status }
     ensures reached { (count : ℕ) → IsReached (meaning_of result).events count count }
     ensures not_refused { (count : ℕ) (before : BusRecord) (run : Job) → IsRefusedAt (meaning_of result).events count before run }
     ensures run { IsBeforeRun result → ⊥ }
-    ensures printed { Receives (meaning_of result).printed (outcome_after (record { world = machine.now.world; bus = B.bus bus.now })).text (status_line result) (K.written sink.old) (K.written sink.new)
+    ensures printed { Receives (meaning_of result).printed [] (outcome_after [] (record { world = machine.now.world; bus = B.bus bus.now })).text (status_line result) (K.written sink.old) (K.written sink.new)
         (Rose (K.faults sink.old) (K.faults sink.new) ⊎ Rose (K.refusals sink.old) (K.refusals sink.new)) }
     ensures cause { (s t : ℕ) (d e : List (Option ℕ)) → HasCause (meaning_of result).blame s t (K.faults sink.old) (K.faults sink.new) d e }
 {
@@ -66,7 +67,23 @@ fn finish<B: Ports, K: Sink>(alloc: Global, machine: &PlainMachine, bus: &B, sin
     }
 }
 
-/// Runs a script on the machine of an image, and prints the report.
+/// The status of a run that ended early.
+fn status_of(fault: RunFault) -> Status
+    ensures { result ≡ status_of fault }
+{
+    match fault {
+        RunFault::NoMemory
+        | RunFault::Bus(RunEnd::NoMemory)
+        | RunFault::Sink(SinkRefusal::NoMemory) => Status::NoMemory,
+        RunFault::Bus(RunEnd::Device { device }) => {
+            Status::OutsideFault(OutsideFault::Device { device })
+        }
+        RunFault::Sink(SinkRefusal::Failed) => Status::OutsideFault(OutsideFault::Write),
+    }
+}
+
+/// Runs a script on the machine of an image, and prints the report behind what the events print. Where the run ends early
+/// only the line of the status comes, of which a fault of writing has none.
 fn run_job<B: Ports, K: Sink, L: Ledger>(
     alloc: Global,
     image: &Image,
@@ -90,17 +107,15 @@ fn run_job<B: Ports, K: Sink, L: Ledger>(
     let Ok(mut machine) = PlainMachine::open(alloc, image) else {
         return refuse(sink, Status::NoMemory);
     };
-    match run_events(&mut machine, script, image.cpus, bus, steps) {
+    match run_events(alloc, &mut machine, script, image.cpus, bus, sink, steps) {
         Ok(()) => finish(alloc, &machine, bus, sink),
-        Err(RunEnd::Device { device }) => {
-            refuse(sink, Status::OutsideFault(OutsideFault::Device { device }))
-        }
-        Err(RunEnd::NoMemory) => refuse(sink, Status::NoMemory),
+        Err(fault) => refuse(sink, status_of(fault)),
     }
 }
 
 /// Does the job that the words name: `run IMAGE SCRIPT` reads an image and a script from the shelf, runs the script's
-/// events on the machine of the image beside the bus of port devices, and prints the report to the sink.
+/// events on the machine of the image beside the bus of port devices, prints the line of each dump to the sink at its event,
+/// and the report behind the last.
 ///
 /// Where the shelf tells its files, the status is that of `outcome_of`, unless something outside failed or memory ran out,
 /// and what the bus and the sink are left with is what the status means (`Ends`). A refusal is told by its line, and the

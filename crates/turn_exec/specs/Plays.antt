@@ -1,5 +1,5 @@
 -- What playing a course over a guest's memory leads to.
-use Rattle.std.specs.Prelude.{◌≡◌, ◌≤◌, ℕ, List, Bool, Option, Some, None}
+use Rattle.std.specs.Prelude.{◌≡◌, ◌≤◌, ℕ, List, Bool, Option, Some, None, is_some}
 use Rattle.svm_model.specs.Machine.Apic.{Apic}
 use Rattle.svm_model.specs.Machine.Bus.{Bus}
 use Rattle.svm_model.specs.Memory.Bytes.{SameOutside, guest_of}
@@ -20,8 +20,16 @@ abbrev pub refused_at : Option RunEnd → ℕ → Option ℕ
 refused_at None calls = None
 refused_at (Some end) calls = Some calls
 
-abbrev pub board_with : Bus → Apic → Option Ipi → ℕ → Option PortWrite → Board
-board_with bus apic sent calls denied = record { bus = bus; apic = apic; sent = sent; calls = calls; denied = denied }
+-- what stands about a vcpu, where this call was refused
+abbrev pub board_with : Bus → Apic → Option Ipi → ℕ → Option RunEnd → Option PortWrite → Board
+board_with bus apic sent calls refused denied = record {
+  bus = bus;
+  apic = apic;
+  sent = sent;
+  calls = calls;
+  cut = is_some refused;
+  denied = denied;
+}
 
 abbrev pub IsBlamed : Option RunEnd → List (Option ℕ) → List (Option ℕ) → Type 0
 IsBlamed None old new = Unit {0}

@@ -1,5 +1,5 @@
 // A turn in its guest's memory.
-ghost use Rattle.std.specs.Prelude.{◌≡◌, ℕ, ◌+◌, ◌*◌, ◌%◌, ◌<◌, ◌≤◌, Bool, true, false, List, Option, is_some, length, IfOk, OnErr, if◌then◌else◌};
+ghost use Rattle.std.specs.Prelude.{◌≡◌, ℕ, ◌+◌, ◌*◌, ◌%◌, ◌<◌, ◌≤◌, Bool, true, false, List, Option, is_some, length, IfOk, OnErr, if◌then◌else◌, ◌||◌};
 ghost use Rattle.svm_model.specs.Memory.Bytes.{IsWithin, SameOutside, guest_of};
 ghost use Rattle.svm_model.specs.Turn.Course.{Course};
 ghost use Rattle.svm_model.specs.Turn.Play.{frames_after, heard, is_refused, numbered};
@@ -63,6 +63,8 @@ fn hear(
         IfOk found (λ there. there ≡ place) → heard (is_refused (refused_at last_refused last_calls) calls.old) place ≡ result }
     ensures counted { (before after : List (Option ℕ)) (last_refused : Option RunEndRecord) (last_calls : ℕ) → CallsFrom refused.new calls.new before last_refused last_calls after →
         (if is_refused (refused_at last_refused last_calls) calls.old then calls.old else calls.old + 1) ≡ calls.new }
+    ensures cut { (before after : List (Option ℕ)) (last_refused : Option RunEndRecord) (last_calls : ℕ) → CallsFrom refused.new calls.new before last_refused last_calls after →
+        (is_refused (refused_at last_refused last_calls) calls.old || is_some refused.old) ≡ is_some refused.new }
     ensures calls { (before after : List (Option ℕ)) (last_refused : Option RunEndRecord) (last_calls : ℕ) → CallsFrom refused.new calls.new before last_refused last_calls after →
         CallsFrom refused.old calls.old before last_refused last_calls after }
     ensures inside { (size : ℕ) → IfOk found (λ there. IsInside size there) → IsInside size result }
@@ -115,8 +117,8 @@ impl<'t, 'm, 'b, 'a, 's, T: Translator, B: Ports, A: Apics, L: Ledger> Reach
         SameNames m.translator.ghost_name last.translator.ghost_name m.memory.ghost_name last.memory.ghost_name m.bus.ghost_name last.bus.ghost_name m.apics.ghost_name last.apics.ghost_name m.steps.ghost_name last.steps.ghost_name
         × (((last.steps.now + T.cost * m.spent ≤ m.steps.now + T.cost * last.spent) × (m.steps.now ≤ last.steps.now))
         × (CallsFrom m.refused m.calls (B.faults m.bus.now) last.refused last.calls (B.faults last.bus.now)
-        × Plays T.stands T.copies T.rule m.space m.window m.translator.now m.memory.now.bytes (board_with (B.bus m.bus.now) (A.apic m.apics.now) (A.sent m.apics.now) m.calls m.denied) m.frames.items course
-        last.translator.now last.memory.now.bytes (board_with (B.bus last.bus.now) (A.apic last.apics.now) (A.sent last.apics.now) last.calls last.denied) last.refused vcpu stepped)) };
+        × Plays T.stands T.copies T.rule m.space m.window m.translator.now m.memory.now.bytes (board_with (B.bus m.bus.now) (A.apic m.apics.now) (A.sent m.apics.now) m.calls m.refused m.denied) m.frames.items course
+        last.translator.now last.memory.now.bytes (board_with (B.bus last.bus.now) (A.apic last.apics.now) (A.sent last.apics.now) last.calls last.refused last.denied) last.refused vcpu stepped)) };
 
     ghost spent = { λ m. m.spent };
 
@@ -184,7 +186,6 @@ impl<'t, 'm, 'b, 'a, 's, T: Translator, B: Ports, A: Apics, L: Ledger> Reach
     fn output(&mut self, write: &PortWrite) -> bool {
         self.spent += 1;
         if self.refused.is_some() {
-            self.denied = Some(*write);
             return false;
         }
         match self.bus.write_port(write) {

@@ -4,8 +4,7 @@
 //! clause, that some steps lead from what the turn wanted before them to what is left of it. `GuestTurn` reaches a guest's
 //! memory by a translator, its ports and its APIC; `take_turn` is the whole turn over it, and is what machines use: memory, what
 //! stands about the vcpu, the vcpu and how the turn comes out are those of the course, played with a walk for each access.
-//! What system rows do to registers is asked through `SystemRows`. The crate stands on the rows, the delivery of events, host
-//! memory and the ports.
+//! The crate stands on the rows, user and system, the delivery of events, host memory and the ports.
 #![tactic(auto)]
 
 mod accesses;
@@ -14,6 +13,7 @@ mod faults;
 mod fetch;
 mod frames;
 mod guest_turn;
+mod instructions;
 mod parts;
 mod plans;
 mod reach;
@@ -31,8 +31,9 @@ pub use apics::Apics;
 pub use faults::{deliver_event, fault, stopped};
 pub use fetch::instruction;
 pub use guest_turn::GuestTurn;
+pub use instructions::{Instruction, RowAccesses};
 pub use reach::Reach;
-pub use system_rows::{SystemRows, system_row};
+pub use system_rows::system_row;
 pub use translator::Translator;
 pub use turns::{TurnEnd, take_turn};
 pub use under::{Alone, Under};

@@ -10,7 +10,6 @@ ghost use Rattle.turn_exec.specs.Plays.{board_with, IsBlamed, refused_at};
 
 use crate::apics::Apics;
 use crate::guest_turn::GuestTurn;
-use crate::system_rows::SystemRows;
 use crate::translator::Translator;
 use crate::under::Under;
 use crate::works::turn;
@@ -33,7 +32,7 @@ pub struct TurnEnd {
 /// The turn of a vcpu over its guest's memory, where its APIC gives this vector. Where an outward call is refused, memory,
 /// what stands about the vcpu and the vcpu are those that the turn has then reached. It makes as many reads at most as 224
 /// translations cost.
-pub fn take_turn<T: Translator, B: Ports, A: Apics, C: Under, R: SystemRows, L: Ledger>(
+pub fn take_turn<T: Translator, B: Ports, A: Apics, C: Under, L: Ledger>(
     translator: &mut T,
     memory: &mut HostMemory,
     window: GuestWindow,
@@ -42,7 +41,6 @@ pub fn take_turn<T: Translator, B: Ports, A: Apics, C: Under, R: SystemRows, L: 
     apics: &mut A,
     control: &C,
     facts: &Facts,
-    rows: &R,
     vcpu: &mut Vcpu,
     interrupt: Option<u8>,
     steps: &mut Steps<L>,
@@ -54,9 +52,9 @@ pub fn take_turn<T: Translator, B: Ports, A: Apics, C: Under, R: SystemRows, L: 
     requires alone { C.control control.now ≡ None }
     requires cost { 1 ≤ T.cost }
     ensures follows { (history : List Told) → T.stands translator.old history →
-        Ensues T.stands T.copies T.rule (play (record { space = space.now; refused = refused_at result.refused result.calls }) (board_with (B.bus bus.old) (A.apic apics.old) (A.sent apics.old) 0 None) (guest_of window memory.old.bytes) []
+        Ensues T.stands T.copies T.rule (play (record { space = space.now; refused = refused_at result.refused result.calls }) (board_with (B.bus bus.old) (A.apic apics.old) (A.sent apics.old) 0 None None) (guest_of window memory.old.bytes) []
         (turn_course (C.control control.now) facts.now vcpu.old interrupt))
-        history translator.new (guest_of window memory.new.bytes) (board_with (B.bus bus.new) (A.apic apics.new) (A.sent apics.new) result.calls result.denied) vcpu.new result.stepped }
+        history translator.new (guest_of window memory.new.bytes) (board_with (B.bus bus.new) (A.apic apics.new) (A.sent apics.new) result.calls result.refused result.denied) vcpu.new result.stepped }
     ensures others { SameOutside window memory.old.bytes memory.new.bytes }
     ensures none_fell { NoneFell (B.faults bus.old) (B.faults bus.new) }
     ensures out { T.refuses ≡ false → is_some result.refused ≡ is_some result.denied }
@@ -78,7 +76,7 @@ pub fn take_turn<T: Translator, B: Ports, A: Apics, C: Under, R: SystemRows, L: 
         refused: None,
         denied: None,
     };
-    let stepped = turn(&mut reach, control, facts, rows, vcpu, interrupt);
+    let stepped = turn(&mut reach, control, facts, vcpu, interrupt);
     TurnEnd {
         stepped,
         refused: reach.refused,

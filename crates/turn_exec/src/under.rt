@@ -47,7 +47,7 @@ impl Under for Alone {
     }
 
     fn offers_apic(&self) -> bool {
-        false
+        true
     }
 
     fn masks_interrupts(&self) -> bool {

@@ -11,7 +11,6 @@ ghost use Rattle.turn_exec.specs.Goes.{Goes};
 use crate::faults::{deliver_event, stopped};
 use crate::fetch::instruction;
 use crate::reach::Reach;
-use crate::system_rows::SystemRows;
 use crate::under::Under;
 use svm_model::{Cause, Facts, Inside, Registers, Stepped, Trap, Vcpu, Work};
 
@@ -147,11 +146,10 @@ fn take_virtual<M: Reach, C: Under>(reach: &mut M, control: &C, vcpu: &mut Vcpu)
 }
 
 /// The instruction at RIP, with what it faults with delivered.
-fn execute<M: Reach, C: Under, R: SystemRows>(
+fn execute<M: Reach, C: Under>(
     reach: &mut M,
     control: &C,
     facts: &Facts,
-    rows: &R,
     vcpu: &mut Vcpu,
 ) -> Stepped
     requires alone { C.control control.now ≡ None }
@@ -160,7 +158,7 @@ fn execute<M: Reach, C: Under, R: SystemRows>(
     ensures goes { (next : CameRecord → Course) → Goes M.plays reach.old (instruction_course (C.control control.now) facts.now vcpu.old (finished_course (C.control control.now) vcpu.old next)) reach.new (next (came_to vcpu.new result)) }
     ensures spent { M.spent reach.new ≤ M.spent reach.old + 224 }
 {
-    match instruction(reach, control, facts, rows, vcpu) {
+    match instruction(reach, control, facts, vcpu) {
         Ok(stepped) => stepped,
         Err(stop) => stopped(reach, control, vcpu, stop),
     }
@@ -172,11 +170,10 @@ fn execute<M: Reach, C: Under, R: SystemRows>(
 /// of two parts each, 32 in a return from a handler, and 176 in four deliveries, of which each has ten accesses of two parts
 /// and some reads, 44.
 #[tactic(auto, unfolding(svm_model::specs::Turn::Work::course_of))]
-pub fn turn<M: Reach, C: Under, R: SystemRows>(
+pub fn turn<M: Reach, C: Under>(
     reach: &mut M,
     control: &C,
     facts: &Facts,
-    rows: &R,
     vcpu: &mut Vcpu,
     interrupt: Option<u8>,
 ) -> Stepped
@@ -192,6 +189,6 @@ pub fn turn<M: Reach, C: Under, R: SystemRows>(
         Work::Interrupt => take_interrupt(reach, control, vcpu, interrupt),
         Work::Virtual => take_virtual(reach, control, vcpu),
         Work::Nothing => Stepped::Went,
-        Work::Instruction => execute(reach, control, facts, rows, vcpu),
+        Work::Instruction => execute(reach, control, facts, vcpu),
     }
 }

@@ -9,7 +9,12 @@ pub struct Cr0Bits(pub u64);
 
 bitflag_items! {
     impl Cr0Bits: u64 {
+        const PROTECTION_ENABLE = 0x1;
         const WRITE_PROTECT = 0x1_0000;
+        const ALIGNMENT_MASK = 0x4_0000;
+        const NOT_WRITE_THROUGH = 0x2000_0000;
+        const CACHE_DISABLE = 0x4000_0000;
+        const PAGING = 0x8000_0000;
     }
 }
 
@@ -18,7 +23,8 @@ impl Flags for Cr0Bits {
 
     ghost exact = { ⊤ };
 
-    ghost table = { (codes "WRITE_PROTECT", 65536) ∷ [] };
+    ghost table = { (codes "PROTECTION_ENABLE", 1) ∷ (codes "WRITE_PROTECT", 65536) ∷ (codes "ALIGNMENT_MASK", 262144)
+        ∷ (codes "NOT_WRITE_THROUGH", 536870912) ∷ (codes "CACHE_DISABLE", 1073741824) ∷ (codes "PAGING", 2147483648) ∷ [] };
 
     ghost set_of = { λ b. b.0 };
 
@@ -41,6 +47,8 @@ pub struct Cr4Bits(pub u64);
 
 bitflag_items! {
     impl Cr4Bits: u64 {
+        const TIME_STAMP_DISABLE = 0x4;
+        const PHYSICAL_ADDRESS_EXTENSION = 0x20;
         const PAGE_GLOBAL = 0x80;
     }
 }
@@ -50,7 +58,7 @@ impl Flags for Cr4Bits {
 
     ghost exact = { ⊤ };
 
-    ghost table = { (codes "PAGE_GLOBAL", 128) ∷ [] };
+    ghost table = { (codes "TIME_STAMP_DISABLE", 4) ∷ (codes "PHYSICAL_ADDRESS_EXTENSION", 32) ∷ (codes "PAGE_GLOBAL", 128) ∷ [] };
 
     ghost set_of = { λ b. b.0 };
 
@@ -73,7 +81,9 @@ pub struct EferBits(pub u64);
 
 bitflag_items! {
     impl EferBits: u64 {
+        const LONG_MODE_ENABLE = 0x100;
         const NO_EXECUTE_ENABLE = 0x800;
+        const SVM_ENABLE = 0x1000;
     }
 }
 
@@ -82,7 +92,7 @@ impl Flags for EferBits {
 
     ghost exact = { ⊤ };
 
-    ghost table = { (codes "NO_EXECUTE_ENABLE", 2048) ∷ [] };
+    ghost table = { (codes "LONG_MODE_ENABLE", 256) ∷ (codes "NO_EXECUTE_ENABLE", 2048) ∷ (codes "SVM_ENABLE", 4096) ∷ [] };
 
     ghost set_of = { λ b. b.0 };
 

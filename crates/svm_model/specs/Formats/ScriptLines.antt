@@ -3,22 +3,22 @@ use Rattle.std.specs.Prelude.{ℕ, ◌+◌, ◌^◌, ◌&&◌, nat_lt, nat_le, L
 use Rattle.std.specs.List.{list_all}
 use Rattle.std.specs.Str.{bytes_eq}
 use Rattle.svm_model.specs.Machine.Bus.{device_count}
-use Rattle.svm_model.specs.Machine.Shapes.{Shape}
+use Rattle.svm_model.specs.Machine.Shapes.{Shape, dump_limit}
 use Rattle.svm_model.specs.declared.formats.ScriptLine.{ScriptLine}
 use Rattle.svm_model.specs.declared.formats.ScriptReason.{ScriptReason}
-use Rattle.svm_model.specs.declared.formats.ScriptReason.TheVariants.{Bytes, Word, Words, Cpu, Guest, Vcpu, Device, Count, Value, Events}
+use Rattle.svm_model.specs.declared.formats.ScriptReason.TheVariants.{Bytes, Word, Words, Cpu, Guest, Vcpu, Device, Count, Value, Length, Address, Events}
 use Rattle.svm_model.specs.declared.names.Event.{Event}
-use Rattle.svm_model.specs.declared.names.Event.TheVariants.{Place, Run, Feed, Unplug}
+use Rattle.svm_model.specs.declared.names.Event.TheVariants.{Place, Run, Feed, Unplug, Dump}
 use Rattle.svm_model.specs.Formats.ScriptWords.{◌>>=◌, words_of, is_text, is_comment, number_in}
 
 -- a value passes the test, or is the reason
 abbrev pub judged : {A : Type 0} → ScriptReason → Bool → A → Result A ScriptReason
 judged reason good x = if good then Ok x else Err reason
 
--- the vcpus of a guest
-abbrev pub vcpus_in : Option ℕ → Result ℕ ScriptReason
-vcpus_in None = Err Guest
-vcpus_in (Some count) = Ok count
+-- what the image has of a guest, where it has that guest
+abbrev pub of_guest : Option ℕ → Result ℕ ScriptReason
+of_guest None = Err Guest
+of_guest (Some count) = Ok count
 
 abbrev pub line_of : Event → ℕ → ℕ → ScriptLine
 line_of event first times = record { event = event; first = first; times = times; each = false }
@@ -26,7 +26,7 @@ line_of event first times = record { event = event; first = first; times = times
 abbrev pub place_values : Shape → ℕ → ℕ → ℕ → ℕ → Result ScriptLine ScriptReason
 place_values shape first cpu guest vcpu = do
   there ← judged Cpu (nat_lt cpu shape.cpus) cpu
-  count ← vcpus_in (slice_get shape.vcpus guest)
+  count ← of_guest (slice_get shape.vcpus guest)
   index ← judged Vcpu (nat_lt vcpu count) vcpu
   Ok (line_of (Place (record { 0 = there }) (record { guest = record { 0 = guest }; index = index })) first 1)
 
@@ -91,6 +91,26 @@ unplug_line first (device ∷ []) = do
   unplug_values first d
 unplug_line first (a ∷ b ∷ words) = Err Words
 
+-- the address is looked at behind the length
+abbrev pub dump_values : Shape → ℕ → ℕ → ℕ → ℕ → Result ScriptLine ScriptReason
+dump_values shape first guest address length = do
+  size ← of_guest (slice_get shape.sizes guest)
+  count ← judged Length (nat_le 1 length && nat_le length dump_limit) length
+  at ← judged Address (nat_le (address + count) size) address
+  Ok (line_of (Dump (record { 0 = guest }) at count) first 1)
+
+-- dump GUEST ADDRESS LENGTH
+unfoldable pub dump_line : Shape → ℕ → List (List ℕ) → Result ScriptLine ScriptReason
+dump_line shape first [] = Err Words
+dump_line shape first (a ∷ []) = Err Words
+dump_line shape first (a ∷ b ∷ []) = Err Words
+dump_line shape first (guest ∷ address ∷ length ∷ []) = do
+  g ← number_in guest
+  a ← number_in address
+  l ← number_in length
+  dump_values shape first g a l
+dump_line shape first (a ∷ b ∷ c ∷ d ∷ words) = Err Words
+
 -- what the words behind a first word say
 abbrev pub command : Shape → ℕ → List ℕ → List (List ℕ) → Result ScriptLine ScriptReason
 command shape first word words =
@@ -98,6 +118,7 @@ command shape first word words =
     else if bytes_eq word (codes "run") then run_line shape first words
     else if bytes_eq word (codes "feed") then feed_line first words
     else if bytes_eq word (codes "unplug") then unplug_line first words
+    else if bytes_eq word (codes "dump") then dump_line shape first words
     else Err Word
 
 -- no line goes past the most events

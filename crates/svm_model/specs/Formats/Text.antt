@@ -1,5 +1,5 @@
 -- The printed text. Every line ends with a line feed.
-use Rattle.std.specs.Prelude.{ℕ, ◌+◌, ◌==◌, List, [], ◌∷◌, ◌++◌, Bool, false, if◌then◌else◌, Option, Some, None, codes, slice_index}
+use Rattle.std.specs.Prelude.{ℕ, ◌+◌, ◌/◌, ◌%◌, ◌==◌, List, [], ◌∷◌, ◌++◌, Bool, false, if◌then◌else◌, Option, Some, None, codes, slice_index}
 use Rattle.std.specs.List.{flat_map}
 use Rattle.std.specs.Fmt.{decimal, digits}
 use Rattle.svm_model.specs.Machine.Bus.{Bus}
@@ -27,6 +27,18 @@ hex n = digits 16 false n
 
 abbrev pub newline : List ℕ
 newline = 10 ∷ []
+
+-- What events print.
+
+-- a byte, in two digits
+abbrev pub byte_digits : ℕ → List ℕ
+byte_digits byte = hex (byte / 16) ⧺ hex (byte % 16)
+
+-- bytes of a guest's memory from an address on, as they are at an event
+unfoldable pub dump_line : ℕ → ℕ → ℕ → List ℕ → List ℕ
+dump_line event guest address bytes =
+    codes "dump event=" ⧺ decimal event ⧺ codes " guest=" ⧺ decimal guest ⧺ codes " at=" ⧺ hex address ⧺ codes " bytes="
+    ⧺ flat_map byte_digits bytes ⧺ newline
 
 -- The report.
 

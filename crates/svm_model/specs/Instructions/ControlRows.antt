@@ -59,7 +59,7 @@ with_control register value next s =
     else if register == 2 then with_cr2 value next s
     else if register == 3 then with_cr3 value next s
     else if register == 4 then with_cr4 value next s
-    else asking (outside.Priority value) (at_next next s)
+    else asking (outside.Priority (value % 16)) (at_next next s)
 
 abbrev pub moves_control : Row → ℕ → Facts → State → Result Systemic Trap
 moves_control row next facts s =
@@ -119,10 +119,11 @@ abbrev pub with_table : Op → ℕ → ℕ → Registers → Registers
 with_table op.Lgdt limit base r = record r { gdtr = record r.gdtr { limit = limit; base = base } }
 with_table _ limit base r = record r { idtr = record r.idtr { limit = limit; base = base } }
 
+-- a limit of 16 bits, and then a base
 abbrev pub loads_table : Op → ℕ → List ℕ → State → Result Systemic Trap
 loads_table o next values s =
     if is_canonical (slice_index values 1)
-    then plainly (at_next next (record s { registers = with_table o (slice_index values 0) (slice_index values 1) s.registers }))
+    then plainly (at_next next (record s { registers = with_table o (slice_index values 0 % 2 ^ 16) (slice_index values 1) s.registers }))
     else Err general_protection
 
 -- an address that is not canonical has no translation

@@ -1,8 +1,8 @@
 -- What each system row does to the registers, what it writes, and what it asks for beyond them (volume 3, 'System
 -- Instruction Reference').
-use Rattle.std.specs.Prelude.{ℕ, List, Bool, true, false, if◌then◌else◌, Option, Some, None, Result, Err}
+use Rattle.std.specs.Prelude.{ℕ, ◌%◌, List, ◌&&◌, true, false, not, if◌then◌else◌, Option, Some, None, Result, Ok, Err}
 use Rattle.svm_model.specs.Instructions.Exceptions.{invalid_opcode}
-use Rattle.svm_model.specs.Instructions.Guards.{refusal}
+use Rattle.svm_model.specs.Instructions.Guards.{has_svm, refusal}
 use Rattle.svm_model.specs.Instructions.Locking.{lock_is_undefined}
 use Rattle.svm_model.specs.Instructions.Operands.{State}
 use Rattle.svm_model.specs.declared.rows.Op.{Op}
@@ -25,7 +25,7 @@ system_op op.Sti row next values facts s = sets_interrupts next s
 system_op op.Pushfq row next values facts s = pushes_flags next s
 system_op op.Popfq row next values facts s = pops_flags next values s
 system_op op.Int3 row next values facts s = asking (outside.Interrupt 3 false) s
-system_op op.Int row next values facts s = asking (outside.Interrupt row.immediate true) s
+system_op op.Int row next values facts s = asking (outside.Interrupt (row.immediate % 256) true) s
 system_op op.Iretq row next values facts s = asking outside.Return s
 system_op op.In row next values facts s = reads_port row next s
 system_op op.Out row next values facts s = writes_port row next s
@@ -52,18 +52,13 @@ abbrev pub on_refusal : Option Trap → Result Systemic Trap → Result Systemic
 on_refusal None rest = rest
 on_refusal (Some trap) rest = Err trap
 
--- the rows that are executed so far; the others end the guest
-unfoldable pub is_executed : Op → Bool
-is_executed op.Hlt = true
-is_executed op.In = true
-is_executed op.Out = true
-is_executed _ = false
-
-abbrev pub executed : Row → ℕ → List ℕ → Facts → State → Result Systemic Trap
-executed row next values facts s = if is_executed row.op then system_op row.op row next values facts s else leaving 9 s
-
 -- What a system row does. `next` is the address of the next row, `values` what the planned accesses read. A fault changes
 -- nothing.
 unfoldable pub system : Row → ℕ → List ℕ → Facts → State → Result Systemic Trap
 system row next values facts s =
-    on_refusal (refusal row s.registers) (if lock_is_undefined row then Err invalid_opcode else executed row next values facts s)
+    on_refusal (refusal row s.registers) (if lock_is_undefined row then Err invalid_opcode else system_op row.op row next values facts s)
+
+-- A row that sets EFER.SVME ends the guest, as no row of SVM is offered yet.
+abbrev pub unless_svm : State → Result Systemic Trap → Result Systemic Trap
+unless_svm s (Ok n) = if has_svm n.state.registers && not (has_svm s.registers) then leaving 9 s else Ok n
+unless_svm s (Err trap) = Err trap

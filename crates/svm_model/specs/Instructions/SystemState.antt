@@ -1,8 +1,9 @@
 -- What a system row gives: registers and written values, and what it asks for beyond them; rows of flags and of ports
 -- (volume 3, 'System Instruction Reference').
-use Rattle.std.specs.Prelude.{ℕ, ◌+◌, ◌-◌, ◌*◌, ◌%◌, ◌^◌, List, false, if◌then◌else◌, Result, Ok, slice_index}
+use Rattle.std.specs.Prelude.{ℕ, ◌+◌, ◌-◌, ◌*◌, ◌%◌, ◌^◌, ◌≤◌, List, false, if◌then◌else◌, Result, Ok, Err, slice_index}
 use Rattle.svm_model.specs.Memory.Bits.{bit, with_bits, without_bits}
-use Rattle.svm_model.specs.Instructions.Operands.{State, rax, rdx, rsp, whole_register, with_register, with_result}
+use Rattle.svm_model.specs.Machine.Bus.{IsWidth}
+use Rattle.svm_model.specs.Instructions.Operands.{State, state, rax, rdx, rsp, whole_register, with_register, with_result}
 use Rattle.svm_model.specs.Turn.Return.{popped_flags, steps_singly}
 use Rattle.svm_model.specs.Instructions.Sources.{names_dx}
 use Rattle.svm_model.specs.declared.names.End.TheVariants.{Mode}
@@ -85,3 +86,24 @@ output_of w r = whole_register rax r % 2 ^ (8 * port_bytes w)
 abbrev pub writes_port : Row → ℕ → State → Result Systemic Trap
 writes_port row next s =
     asking (outside.PortWrite (port_of row s.registers) (port_bytes row.width) (output_of row.width s.registers)) (at_next next s)
+
+-- What a call that does a row gave: its answer, and the registers and results that it left.
+abbrev pub systemic : Result Outside Trap → Registers → List ℕ → Result Systemic Trap
+systemic (Ok o) r results = Ok (record { state = state r results; outside = o })
+systemic (Err trap) r results = Err trap
+
+-- what is asked for fits: a port's width, and the class of a priority
+abbrev pub Fits : Outside → Type 0
+Fits outside.None = Unit {0}
+Fits outside.Halt = Unit {0}
+Fits outside.Shadow = Unit {0}
+Fits (outside.Interrupt vector software) = Unit {0}
+Fits outside.Return = Unit {0}
+Fits (outside.PortRead port width) = IsWidth width
+Fits (outside.PortWrite port width value) = IsWidth width
+Fits outside.DropLocal = Unit {0}
+Fits outside.DropAsid = Unit {0}
+Fits (outside.DropPage address) = Unit {0}
+Fits (outside.Priority value) = value ≤ 15
+Fits outside.Svm = Unit {0}
+Fits (outside.Ends e) = Unit {0}

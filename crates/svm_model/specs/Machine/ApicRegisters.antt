@@ -104,9 +104,9 @@ abbrev pub read_at : Option Place → Apic → ℕ → Option ℕ
 read_at None a event = None
 read_at (Some place) a event = Some (value_at place.register place.number a event)
 
--- the registers that are offered: none so far
+-- the registers that are offered so far: the task priority, and the end of an interrupt
 abbrev pub offered_at : ℕ → Option Place
-offered_at offset = None
+offered_at offset = if (offset == 0x080) || (offset == 0x0B0) then place_of offset else None
 
 -- a read of an offset: None where no register is there
 unfoldable pub register_read : Apic → ℕ → ℕ → Option ℕ

@@ -1,6 +1,6 @@
 -- Runs of events, events that are cut off, and what their parts keep.
-use Rattle.std.specs.Prelude.{◌≡◌, ℕ, List, [], ◌∷◌, Option, Some, None, slice_get}
-use Rattle.svm_model.specs.Machine.Bus.{Bus}
+use Rattle.std.specs.Prelude.{◌≡◌, ℕ, ◌+◌, List, [], ◌∷◌, Option, Some, None, slice_get}
+use Rattle.svm_model.specs.Machine.Bus.{Bus, bus_after_write}
 use Rattle.svm_model.specs.Machine.Guest.{Guest}
 use Rattle.svm_model.specs.declared.names.Ended.{Ended}
 use Rattle.svm_model.specs.declared.names.Event.{Event}
@@ -26,15 +26,22 @@ reached_of call w bus _ = w
 abbrev pub reached : ℕ → World → Bus → Event → World
 reached call w bus event = reached_of call (with_timers w) bus event
 
--- the outward call of this number is a write to a port
-abbrev pub IsOut : ℕ → World → Bus → Option (Option VcpuId) → Type 0
-IsOut call w bus None = ⊥
-IsOut call w bus (Some None) = ⊥
-IsOut call w bus (Some (Some id)) = (write : PortWrite) × ((turn_of (Some call) w bus id).denied ≡ Some write)
+-- The outward call of this number is a write to a port: where it is refused the turn is denied that write, and where it is
+-- granted the write is all that the turn does to the bus, by its last call.
+pub record IsOut (call : ℕ) (w : World) (bus : Bus) (id : VcpuId) : Type 0 where
+  pub write : PortWrite
+  pub denied : (turn_of (Some call) w bus id).denied ≡ Some write
+  pub granted : (turn_of None w bus id).bus ≡ bus_after_write bus write
+  pub last : (turn_of None w bus id).calls ≡ call + 1
+
+abbrev pub IsOutOf : ℕ → World → Bus → Option (Option VcpuId) → Type 0
+IsOutOf call w bus None = ⊥
+IsOutOf call w bus (Some None) = ⊥
+IsOutOf call w bus (Some (Some id)) = IsOut call w bus id
 
 -- the event hands something to a device or to the output: a feed, or a run whose turn writes to a port by this call
 unfoldable pub HandsOverOf : ℕ → World → Bus → Event → Type 0
-HandsOverOf call w bus (Run cpu) = IsOut call w bus (slice_get w.placing cpu.0)
+HandsOverOf call w bus (Run cpu) = IsOutOf call w bus (slice_get w.placing cpu.0)
 HandsOverOf call w bus (Feed device value) = Unit {0}
 HandsOverOf call w bus _ = ⊥
 

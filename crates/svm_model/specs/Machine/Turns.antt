@@ -1,5 +1,5 @@
 -- The turn of a vcpu in a world: its course is played over its guest's memory, and what it comes out to is put back.
-use Rattle.std.specs.Prelude.{ℕ, ◌+◌, ◌%◌, ◌^◌, ◌||◌, ◌==◌, List, [], ◌∷◌, Bool, if◌then◌else◌, Option, Some, None, slice_get, slice_set}
+use Rattle.std.specs.Prelude.{ℕ, ◌+◌, ◌%◌, ◌^◌, ◌||◌, ◌==◌, List, [], ◌∷◌, Bool, false, if◌then◌else◌, Option, Some, None, slice_get, slice_set}
 use Rattle.svm_model.specs.Machine.Apic.{Apic, accepted}
 use Rattle.svm_model.specs.Machine.ApicTargets.{targets_of}
 use Rattle.svm_model.specs.Machine.Bus.{Bus}
@@ -16,12 +16,13 @@ use Rattle.svm_model.specs.declared.turns.Stepped.{Stepped}
 use Rattle.svm_model.specs.declared.turns.Stepped.TheVariants.{Ends}
 use Rattle.svm_model.specs.Machine.World.{World}
 
--- what a turn makes of the world and the bus: the end that came in it, the write to a port that was refused in it, and what it
--- tells
+-- what a turn makes of the world and the bus: the end that came in it, how many of its outward calls were granted, the write to
+-- a port that was refused in it, and what it tells
 pub record Turn : Type 0 where
   pub world : World
   pub bus : Bus
   pub ended : Option Ended
+  pub calls : ℕ
   pub denied : Option PortWrite
   pub told : List Told
 
@@ -64,18 +65,19 @@ guest_after guest index event turn = with_sent turn.board.sent index (record {
 })
 
 abbrev pub no_turn : World → Bus → Turn
-no_turn w bus = record { world = w; bus = bus; ended = None; denied = None; told = [] }
+no_turn w bus = record { world = w; bus = bus; ended = None; calls = 0; denied = None; told = [] }
 
 abbrev pub turn_done : World → Guest → VcpuId → Turned → Turn
 turn_done w guest id turn = record {
   world = record w { guests = slice_set w.guests id.guest.0 (guest_after guest id.index w.event turn) };
   bus = turn.board.bus;
   ended = end_by id.index w.event turn.stepped;
+  calls = turn.board.calls;
   denied = turn.board.denied;
   told = turn.told;
 }
 
--- the time-stamp counter is the event's number and the vcpu's addend
+-- the time-stamp counter is the event's number and the vcpu's addend; the task priority is asked for where a row reads it
 abbrev pub facts_of : World → VcpuId → Vcpu → Apic → Facts
 facts_of w id vcpu apic = record {
   vcpu = id;
@@ -83,11 +85,11 @@ facts_of w id vcpu apic = record {
   tsc = (w.event + vcpu.registers.tsc_add) % 2 ^ 64;
   apic_id = apic.id;
   features = w.features;
-  tpr = apic.tpr;
+  tpr = 0;
 }
 
 abbrev pub board_of : Bus → Apic → Board
-board_of bus apic = record { bus = bus; apic = apic; sent = None; calls = 0; denied = None }
+board_of bus apic = record { bus = bus; apic = apic; sent = None; calls = 0; cut = false; denied = None }
 
 abbrev pub with_apic : Option ℕ → World → Bus → Guest → VcpuId → Vcpu → Option Apic → Turn
 with_apic refused w bus guest id vcpu None = no_turn w bus

@@ -33,13 +33,13 @@ masks_interrupts = asks v_intr_masking
 abbrev pub owns_gif : Option Control → Bool
 owns_gif = asks has_v_gif
 
--- L1 does not reach its APIC by its page yet; an L2 does not; a guest on a physical processor does where it has AVIC
+-- L1 reaches its APIC by its page; an L2 does not; a guest on a physical processor does where it has AVIC
 abbrev pub is_some : Option Frame → Bool
 is_some None = false
 is_some (Some frame) = true
 
 abbrev pub offers_apic : Option Control → Bool
-offers_apic None = false
+offers_apic None = true
 offers_apic (Some c) = is_some c.bar
 
 -- What a vcpu in a VMCB has.

@@ -56,12 +56,13 @@ pub record Way : Type 0 where
   pub refused : Option ℕ
 
 -- What stands about a vcpu: the bus of its ports, its APIC, the interprocessor interrupt that it has sent, how many outward
--- calls were granted, and the write to a port that was refused, where one was.
+-- calls were granted, whether one was refused, and the write to a port that it was, where it was one.
 pub record Board : Type 0 where
   pub bus : Bus
   pub apic : Apic
   pub sent : Option Ipi
   pub calls : ℕ
+  pub cut : Bool
   pub denied : Option PortWrite
 
 -- What a turn did that copies have to do with, in order; what was refused is told too.

@@ -1,6 +1,6 @@
 -- What a course means: it is played over memory, a board and the frames of the parts that were translated so far, and
 -- tells what was done.
-use Rattle.std.specs.Prelude.{ℕ, ◌+◌, ◌*◌, ◌/◌, ◌%◌, ◌^◌, ◌==◌, nat_lt, List, [], ◌∷◌, ◌++◌, Bool, false, not, if◌then◌else◌, Option, Some, None, length, take, drop, slice_index}
+use Rattle.std.specs.Prelude.{ℕ, ◌+◌, ◌*◌, ◌/◌, ◌%◌, ◌^◌, ◌==◌, ◌&&◌, ◌||◌, nat_lt, List, [], ◌∷◌, ◌++◌, Bool, false, not, if◌then◌else◌, Option, Some, None, length, take, drop, slice_index}
 use Rattle.svm_model.specs.Machine.Apic.{Apic, taken}
 use Rattle.svm_model.specs.Machine.ApicRegisters.{Written, register_read, register_written}
 use Rattle.svm_model.specs.Machine.Bus.{Bus, device_of, value_read, bus_after_read, bus_after_write}
@@ -60,9 +60,12 @@ is_refused (Some refused) number = refused == number
 abbrev pub refuses : Way → Board → Bool
 refuses way board = is_refused way.refused board.calls
 
--- a call that is granted counts
+-- a call that is granted counts; where one is refused the turn is cut off
 abbrev pub called : Bool → Board → Board
-called refused board = record board { calls = if refused then board.calls else board.calls + 1 }
+called refused board = record board {
+  calls = if refused then board.calls else board.calls + 1;
+  cut = refused || board.cut;
+}
 
 -- What a course learns of a translation, where so many parts have a number.
 abbrev pub numbered : ℕ → Translated → Translation
@@ -93,14 +96,14 @@ bus_after_out refused bus write = if refused then bus else bus_after_write bus w
 abbrev pub with_bus : Board → Bus → Board
 with_bus board bus = record board { bus = bus }
 
--- the write that was refused
-abbrev pub denied_after_out : Bool → Option PortWrite → PortWrite → Option PortWrite
-denied_after_out refused denied write = if refused then Some write else denied
+-- the write that was refused, unless another call was refused before it
+abbrev pub denied_after_out : Bool → Board → PortWrite → Option PortWrite
+denied_after_out refused board write = if refused && not board.cut then Some write else board.denied
 
 abbrev pub with_out : Bool → Board → PortWrite → Board
 with_out refused board write = record board {
   bus = bus_after_out refused board.bus write;
-  denied = denied_after_out refused board.denied write;
+  denied = denied_after_out refused board write;
 }
 
 abbrev pub read_answer : Option ℕ → ApicAnswer

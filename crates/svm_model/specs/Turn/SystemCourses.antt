@@ -1,11 +1,11 @@
 -- The course of a system row: the faults that come first, the intercept, the accesses, and what is left.
-use Rattle.std.specs.Prelude.{ℕ, ◌+◌, ◌/◌, ◌%◌, ◌^◌, List, Bool, true, false, if◌then◌else◌, Option, Some, None, Result, Ok, Err, slice_index}
+use Rattle.std.specs.Prelude.{ℕ, ◌+◌, ◌/◌, ◌%◌, ◌^◌, ◌==◌, ◌&&◌, List, Bool, true, false, not, if◌then◌else◌, Option, Some, None, Result, Ok, Err, slice_index}
 use Rattle.svm_model.specs.Turn.Accesses.{Words, no_values, planned_accesses}
-use Rattle.svm_model.specs.Turn.Control.{Control, facts_under}
-use Rattle.svm_model.specs.Turn.Course.{Course, Look}
+use Rattle.svm_model.specs.Turn.Control.{Control, facts_under, masks_interrupts}
+use Rattle.svm_model.specs.Turn.Course.{ApicRead, Course, Look}
 use Rattle.svm_model.specs.Instructions.Exceptions.{invalid_opcode}
 use Rattle.svm_model.specs.Turn.Faults.{Came, leaves, unless_exit}
-use Rattle.svm_model.specs.Instructions.Guards.{guard_of, refusal}
+use Rattle.svm_model.specs.Instructions.Guards.{guard_of, refusal, writes_special}
 use Rattle.svm_model.specs.declared.guards.Intercept.{Intercept}
 use Rattle.svm_model.specs.declared.guards.Intercept.TheVariants.{Ports, Msrs}
 use Rattle.svm_model.specs.Svm.Intercepts.{asks_msrs, asks_ports, map_base, msr_exit, msr_place, port_exit, ports_at, ports_count, ports_set, row_exit}
@@ -15,7 +15,7 @@ use Rattle.svm_model.specs.Turn.Outsides.{Doing, coming, with_outside}
 use Rattle.svm_model.specs.Instructions.Planning.{planned}
 use Rattle.svm_model.specs.Memory.RegisterFile.{is_user}
 use Rattle.svm_model.specs.Memory.Bits.{bit, bits_where}
-use Rattle.svm_model.specs.Instructions.SystemRows.{system}
+use Rattle.svm_model.specs.Instructions.SystemRows.{system, unless_svm}
 use Rattle.svm_model.specs.Instructions.SystemState.{Systemic, port_of, port_bytes}
 use Rattle.svm_model.specs.Svm.Vmcb.{Fields}
 use Rattle.svm_model.specs.declared.exits.Exit.{Exit}
@@ -23,12 +23,13 @@ use Rattle.svm_model.specs.declared.names.End.TheVariants.{OutsideMemory}
 use Rattle.svm_model.specs.declared.rows.Op.{Op}
 use Rattle.svm_model.specs.declared.rows.Op.TheVariants as op
 use Rattle.svm_model.specs.declared.rows.PlannedAccess.{PlannedAccess}
+use Rattle.svm_model.specs.declared.rows.Row.{Row}
 use Rattle.svm_model.specs.declared.traps.Trap.{Trap}
 use Rattle.svm_model.specs.declared.turns.Stop.{Stop}
 use Rattle.svm_model.specs.declared.turns.Stop.TheVariants as stop
 use Rattle.svm_model.specs.declared.vmcbs.Field.TheVariants as f
 use Rattle.svm_model.specs.declared.windows.OutsideMemory.{OutsideMemory as OutsideAt}
-use Rattle.svm_model.specs.Turn.UserCourses.{raised}
+use Rattle.svm_model.specs.Turn.UserCourses.{on_register_read, raised}
 
 abbrev pub on_system : Doing → List PlannedAccess → List ℕ → (Result Came Stop → Course) → Result Systemic Trap → Course
 on_system d plan numbers next (Ok s) = with_outside d plan numbers s.state.results s.state.registers s.outside next
@@ -36,7 +37,7 @@ on_system d plan numbers next (Err trap) = next (raised trap)
 
 abbrev pub system_with : Doing → List ℕ → Result Systemic Trap
 system_with d values =
-    system d.row d.next_rip values (facts_under d.control d.vcpu d.facts) (state d.vcpu.registers no_values)
+    let s = state d.vcpu.registers no_values in unless_svm s (system d.row d.next_rip values (facts_under d.control d.vcpu d.facts) s)
 
 abbrev pub on_read : Doing → List PlannedAccess → (Result Came Stop → Course) → Result Words Stop → Course
 on_read d plan next (Ok read) = on_system d plan read.numbers next (system_with d read.values)
@@ -45,10 +46,31 @@ on_read d plan next (Err reason) = next (Err reason)
 abbrev pub system_accesses : Doing → List PlannedAccess → (Result Came Stop → Course) → Course
 system_accesses d plan next = planned_accesses (is_user d.vcpu.registers) plan (on_read d plan next)
 
+-- MOV from CR8 reads the register of the task priority, 80h; under V_INTR_MASKING it reads V_TPR (volume 2, 'CR8', 'Virtual
+-- TPR').
+
+abbrev pub is_control_move : Op → Bool
+is_control_move op.MovCr = true
+is_control_move _ = false
+
+abbrev pub reads_priority : Row → Bool
+reads_priority row = is_control_move row.op && not (writes_special row.form) && (row.register == 8)
+
+-- the row's facts, with a task priority
+abbrev pub knowing : Doing → ℕ → Doing
+knowing d priority = record d { facts = record d.facts { tpr = priority % 256 } }
+
+abbrev pub row_accesses : Doing → (Result Came Stop → Course) → Course
+row_accesses d next = system_accesses d (planned d.row d.vcpu.registers d.next_rip) next
+
+abbrev pub priority_read : Doing → (Result Came Stop → Course) → Course
+priority_read d next = ApicRead 0x080 d.facts.event (on_register_read d 0x080 next (λ priority. row_accesses (knowing d priority) next))
+
+abbrev pub informed : Doing → (Result Came Stop → Course) → Course
+informed d next = if reads_priority d.row && not (masks_interrupts d.control) then priority_read d next else row_accesses d next
+
 unfoldable pub unlocked : Doing → (Result Came Stop → Course) → Course
-unlocked d next =
-    if lock_is_undefined d.row then next (raised invalid_opcode)
-    else system_accesses d (planned d.row d.vcpu.registers d.next_rip) next
+unlocked d next = if lock_is_undefined d.row then next (raised invalid_opcode) else informed d next
 
 -- Permission maps: an intercept where a bit is set.
 

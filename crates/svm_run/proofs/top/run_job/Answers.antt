@@ -1,8 +1,10 @@
 -- What was run and printed is what the run of the script gives.
-use Rattle.std.proofs.Common.{◌∙◌, ap}
-use Rattle.svm_run.specs.Outcome.{Outcome}
-use Rattle.svm_run.proofs.Endings.{answered, ends-unstarted, ends-finished, ends-refused, ends-cut}
-use Rattle.svm_run.proofs.Runs.{led-completed, reads-completed}
+use Rattle.std.proofs.Common.{◌∙◌}
+use Rattle.svm_run.proofs.Endings.{answered, cause_later, cause_of, caused, ends-early, ends-finished, ends-unstarted, of_status, printed_by, started, undetermined}
+use Rattle.svm_run.proofs.Received.{rose-later}
+use Rattle.svm_run.specs.Answers.{IsBeforeRun, IsDetermined}
+use Rattle.svm_run.specs.Statuses.{meaning_of}
+use Rattle.svm_run.proofs.Runs.{reads-completed, status-completed}
 use Rattle.svm_run.proofs.top.run_job.Goals as goal
 
 pub returns-in_default-clause-ends : goal.returns-in_default-clause-ends
@@ -10,28 +12,35 @@ returns-in_default-clause-ends g c = answered _ _ _ _ _ _ _ _ c.refuse.ensures.s
 
 pub returns-in-Ok-run_events-clause-exact : goal.returns-in-Ok-run_events-clause-exact
 returns-in-Ok-run_events-clause-exact g c = λ answer.
-    c.finish.ensures.exact answer ∙ ap (λ (o : Outcome). o.status) (led-completed _ _ _ _ c.args.image.now c.args.script.now c.in-Ok.ensures.world c.in-Ok-run_events.ensures.world c.in-Ok-run_events.ensures.bus)
+    c.finish.ensures.exact answer ∙ status-completed _ _ _ _ c.args.image.now c.args.script.now c.in-Ok.ensures.world c.in-Ok-run_events.ensures.world c.in-Ok-run_events.ensures.bus
 
 pub returns-in-Ok-run_events-clause-ends : goal.returns-in-Ok-run_events-clause-ends
 returns-in-Ok-run_events-clause-ends g c =
-    ends-finished _ _ _ _ _ _ c.args.image.now c.args.script.now _ _ _ c.in-Ok.ensures.world c.in-Ok-run_events.ensures.world c.in-Ok-run_events.ensures.bus
-    c.finish.ensures.reached c.finish.ensures.not_refused c.finish.ensures.printed
+    ends-finished _ _ _ _ _ c.args.image.now c.args.script.now _ _ _ _ _ c.in-Ok.ensures.world c.in-Ok-run_events.ensures.world c.in-Ok-run_events.ensures.bus c.in-Ok-run_events.ensures.printed
+    c.finish.ensures.reached c.finish.ensures.not_refused c.finish.ensures.run (rose-later _ _ _ _ _ _ c.run_events.ensures.later_faults c.run_events.ensures.later_refusals) c.finish.ensures.printed
+
+pub returns-in-Ok-run_events-clause-cause : goal.returns-in-Ok-run_events-clause-cause
+returns-in-Ok-run_events-clause-cause g c = λ s t. cause_later (meaning_of c.finish.result).blame s t _ _ _ _ _ c.run_events.ensures.later_faults (c.finish.ensures.cause s t _ _)
 
 pub returns-in-Ok-run_events-clause-steps : goal.returns-in-Ok-run_events-clause-steps
 returns-in-Ok-run_events-clause-steps g c = reads-completed _ _ _ c.args.image.now c.args.script.now c.requires.count c.run_events.ensures.steps
 
-pub returns-in-Err-Device-clause-ends : goal.returns-in-Err-Device-clause-ends
-returns-in-Err-Device-clause-ends g c =
-    answered _ _ _ _ _ _ _ _ c.refuse-in-Err-Device.ensures.same
-    (ends-refused _ _ _ _ _ _ c.args.image.now c.args.script.now _ _ _ c.in-Ok.ensures.world c.in-Err-Device.ensures.cut c.refuse-in-Err-Device.ensures.line)
-
-pub returns-in-Err-Device-clause-steps : goal.returns-in-Err-Device-clause-steps
-returns-in-Err-Device-clause-steps g c = reads-completed _ _ _ c.args.image.now c.args.script.now c.requires.count c.run_events.ensures.steps
-
 pub returns-clause-ends : goal.returns-clause-ends
 returns-clause-ends g c =
-    answered _ _ _ _ _ _ _ _ c.refuse-in-Err-NoMemory.ensures.same
-    (ends-cut _ _ _ _ _ _ c.args.image.now c.args.script.now _ _ _ c.in-Ok.ensures.world c.in-Err-NoMemory.ensures.cut c.refuse-in-Err-NoMemory.ensures.line)
+    answered _ _ _ _ _ _ _ _ (c.refuse-in-Err.ensures.same ∙ c.status_of.ensures)
+    (ends-early c.in-Err.fault _ _ _ c.args.image.now c.args.script.now _ _ _ _ _ c.in-Ok.ensures.world c.in-Err.ensures.ended
+    (rose-later _ _ _ _ _ _ c.run_events.ensures.later_faults c.run_events.ensures.later_refusals)
+    (printed_by _ _ _ _ _ c.status_of.ensures c.refuse-in-Err.ensures.line))
+
+pub returns-clause-exact : goal.returns-clause-exact
+returns-clause-exact g c = λ answer. absurd (undetermined c.in-Err.fault (of_status IsDetermined _ _ (c.refuse-in-Err.ensures.same ∙ c.status_of.ensures) answer))
+
+pub returns-clause-run : goal.returns-clause-run
+returns-clause-run g c = λ answer. started c.in-Err.fault (of_status IsBeforeRun _ _ (c.refuse-in-Err.ensures.same ∙ c.status_of.ensures) answer)
+
+pub returns-clause-cause : goal.returns-clause-cause
+returns-clause-cause g c = λ s t.
+    cause_of _ _ _ _ _ _ _ _ (c.refuse-in-Err.ensures.same ∙ c.status_of.ensures) (caused c.in-Err.fault s t _ _ _ _ _ c.refuse-in-Err.ensures.later c.in-Err.ensures.cause)
 
 pub returns-clause-steps : goal.returns-clause-steps
 returns-clause-steps g c = reads-completed _ _ _ c.args.image.now c.args.script.now c.requires.count c.run_events.ensures.steps

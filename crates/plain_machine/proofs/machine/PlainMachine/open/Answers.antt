@@ -15,7 +15,7 @@ returns-clause-world c =
     ∙ ap world_of c.image.view_is
 
 pub returns-clause-shape : goal.returns-clause-shape
-returns-clause-shape c = ap world_shape (returns-clause-world c) ∙ world_shape-world_of c.args.image.now
+returns-clause-shape c = ap world_shape (returns-clause-world c) ∙ world_shape-world_of c.args.image.now c.requires.lawful
 
 pub returns-clause-well_formed : goal.returns-clause-well_formed
 returns-clause-well_formed c =
