@@ -1,5 +1,6 @@
 // One run of bytes that all guests share. A guest reads and writes in its window alone.
 ghost use Rattle.std.specs.Prelude.{◌≡◌, ℕ, ◌+◌, ◌*◌, ◌^◌, ◌<◌, ◌≤◌, ◌++◌, length, take, drop, replicate, max, IfOk, IfErr, MatchResult};
+ghost use Rattle.std.specs.Int.{w64, from_le_bytes};
 ghost use Rattle.svm_model.specs.Memory.Bytes.{IsWithin, SameOutside, guest_of, bytes_at, put_at};
 
 use crate::steps::Steps;
@@ -34,8 +35,8 @@ impl HostMemory {
     }
 
     /// Reads bytes of the guest's memory, from a guest-physical address on, into the front of `into`. It counts one
-    /// whether or not the bytes are there, and no other call tells a byte, so the count is that of all reads. Where a
-    /// byte is not there, the answer is the first such address, and `into` stays.
+    /// whether or not the bytes are there, and beside `read_number`, which counts too, no other call tells a byte, so the
+    /// count is that of all reads. Where a byte is not there, the answer is the first such address, and `into` stays.
     #[tactic(auto, using(svm_model::proofs::WindowLemmas::windows))]
     pub fn read_guest<L: Ledger>(
         &self,
@@ -61,6 +62,28 @@ impl HostMemory {
         let start = window.base as usize;
         let end = start + window.size as usize;
         read_bytes(&bytes[start..end], address, length, into)
+    }
+
+    /// Reads the number in eight bytes of the guest's memory, from a guest-physical address on, the lowest byte first. It
+    /// counts as `read_guest` does, and answers like it where a byte is not there.
+    #[tactic(auto, using(svm_model::proofs::WindowLemmas::windows))]
+    #[inline]
+    pub fn read_number<L: Ledger>(
+        &self,
+        window: GuestWindow,
+        address: u64,
+        steps: &mut Steps<L>,
+    ) -> Result<u64, OutsideMemory>
+        requires { IsWithin window self.now.bytes }
+        ensures read { MatchResult (bytes_at (guest_of window self.now.bytes) address 8)
+            (λ bytes. result ≡ Ok (from_le_bytes w64 bytes))
+            (λ outside. result ≡ Err outside) }
+        ensures steps { steps.new ≡ steps.old + 1 }
+    {
+        let bytes = self.bytes.as_slice();
+        let start = window.base as usize;
+        let end = start + window.size as usize;
+        read_number_of(&bytes[start..end], address, steps)
     }
 
     /// Writes the front of `from` into the guest's memory, from a guest-physical address on. Where one of the bytes has
@@ -122,8 +145,32 @@ fn read_bytes(
 {
     let at = place(guest, address, length)?;
     let count = length as usize;
-    into[..count].copy_from_slice(&guest[at..at + count]);
+    // A copy whose length is known takes two moves, any other a call.
+    match count {
+        15 => into[..15].copy_from_slice(&guest[at..at + 15]),
+        8 => into[..8].copy_from_slice(&guest[at..at + 8]),
+        _ => into[..count].copy_from_slice(&guest[at..at + count]),
+    }
     Ok(())
+}
+
+#[inline]
+fn read_number_of<L: Ledger>(
+    guest: &[u8],
+    address: u64,
+    steps: &mut Steps<L>,
+) -> Result<u64, OutsideMemory>
+    ensures read { MatchResult (bytes_at guest.now address 8)
+        (λ bytes. result ≡ Ok (from_le_bytes w64 bytes))
+        (λ outside. result ≡ Err outside) }
+    ensures steps { steps.new ≡ steps.old + 1 }
+{
+    steps.tick();
+    let at = place(guest, address, 8)?;
+    match guest[at..at + 8].split_first_chunk() {
+        Some((bytes, _)) => Ok(u64::from_le_bytes(*bytes)),
+        None => Err(OutsideMemory { address }),
+    }
 }
 
 fn write_bytes(
@@ -140,7 +187,10 @@ fn write_bytes(
 {
     let at = place(guest, address, length)?;
     let count = length as usize;
-    guest[at..at + count].copy_from_slice(&from[..count]);
+    match count {
+        8 => guest[at..at + 8].copy_from_slice(&from[..8]),
+        _ => guest[at..at + count].copy_from_slice(&from[..count]),
+    }
     Ok(())
 }
 
@@ -150,7 +200,7 @@ fn place(guest: &[u8], address: u64, count: u8) -> Result<usize, OutsideMemory>
     ensures err { IfErr result (λ outside. (outside.address ≡ max address (length guest.now)) × (length guest.now < address + count)) }
 {
     let size = guest.len() as u64;
-    if address <= size && count as u64 <= size - address {
+    if count as u64 <= size && address <= size - count as u64 {
         Ok(address as usize)
     } else {
         Err(OutsideMemory {

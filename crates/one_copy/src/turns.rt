@@ -11,6 +11,7 @@ ghost use Rattle.one_copy.specs.Recalls.{keeps};
 use crate::translating::OneCopy;
 use host_memory::{GuestWindow, HostMemory, Steps};
 use port_bus::Ports;
+use row_table::KeptRows;
 use std::sync::ledger::Ledger;
 use svm_model::{Facts, Outer, Space, Vcpu};
 use turn_exec::{Alone, Apics, Translator, TurnEnd};
@@ -25,6 +26,7 @@ pub fn take_turn<B: Ports, A: Apics, L: Ledger>(
     space: &Space,
     bus: &mut B,
     apics: &mut A,
+    rows: &mut KeptRows,
     facts: &Facts,
     vcpu: &mut Vcpu,
     steps: &mut Steps<L>,
@@ -43,6 +45,6 @@ pub fn take_turn<B: Ports, A: Apics, L: Ledger>(
 {
     copy.drop_copy();
     turn_exec::take_turn(
-        copy, memory, window, space, bus, apics, &Alone, facts, vcpu, None, steps,
+        copy, memory, window, space, bus, apics, &Alone, rows, facts, vcpu, None, steps,
     )
 }

@@ -10,6 +10,7 @@
 mod bits;
 mod entry;
 mod path;
+mod path_bits;
 mod walks;
 
 pub use bits::EntryBits;

@@ -21,6 +21,7 @@ use crate::walking::take_turn;
 use host_memory::{GuestWindow, HostMemory, OutsideMemory, Steps};
 use image_format::{GuestImage, Image};
 use port_bus::Ports;
+use row_table::KeptRows;
 use std::alloc::{AllocError, Global};
 use std::marker::Model;
 use std::sync::ledger::Ledger;
@@ -41,6 +42,8 @@ pub struct PlainMachine {
     placed: Option<VcpuId>,
     event: u32,
     stopped: bool,
+    /// Rows that were decoded before, of which no clause speaks.
+    rows: KeptRows,
 }
 
 impl Model for PlainMachine {
@@ -137,6 +140,7 @@ impl PlainMachine {
             self.window,
             bus,
             &mut self.apic,
+            &mut self.rows,
             &facts,
             &mut self.vcpu,
             steps,
@@ -495,6 +499,7 @@ impl PlainMachine {
             placed: None,
             event: 0,
             stopped: false,
+            rows: KeptRows::new(alloc),
         })
     }
 }

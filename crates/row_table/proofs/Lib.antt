@@ -11,3 +11,5 @@ pub mod Unique
 pub mod Spelled
 pub mod Read
 pub mod Spellings
+pub mod KeptBytes
+pub mod Index

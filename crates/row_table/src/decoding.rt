@@ -4,6 +4,7 @@ ghost use Rattle.svm_model.specs.Instructions.Decoding.{escape_of, line_at, open
 ghost use Rattle.svm_model.specs.Instructions.RowParts.{arithmetic, shift_or_rotation, op_by, condition_by, width_of, is_byte, is_of_byte, full_at, whole_at, immediate_at, operand_field_at, register_by};
 ghost use Rattle.svm_model.specs.Instructions.InstructionBytes.{Reads};
 ghost use Rattle.svm_model.specs.Instructions.Rows.{decoded, IsForm, LeavesForms, IsDecoded};
+ghost use Rattle.row_table.specs.Read.{answer_in, in_place};
 ghost use Rattle.svm_model.specs.Instructions.Spelling.{IsSpelled, IsDecodedSpelling};
 
 use crate::fields::{extended_8, extended_32, read_rm, register_code, register_operand};
@@ -12,7 +13,7 @@ use crate::prefixes::{read_prefixes, read_rex};
 use crate::table::{first_line, fitting_line, has_modrm, leading_line};
 use register_file::cut;
 use svm_model::{
-    Decoded, Immediate, LineOperation, Op, OpcodeMap, OpenedLine, Operand, OperandFields,
+    Decoded, Form, Immediate, LineOperation, Op, OpcodeMap, OpenedLine, Operand, OperandFields,
     OperandSize, Prefixes, Rex, Row, Unread, Width,
 };
 
@@ -167,7 +168,7 @@ fn read_line(
         });
     }
     let modrm = input.byte()?;
-    let Some(line) = fitting_line(prefixes, rex, map, opcode, modrm) else {
+    let Some(line) = fitting_line(line, prefixes, rex, map, opcode, modrm) else {
         return Err(Unread::Unlisted { byte: modrm });
     };
     Ok(OpenedLine {
@@ -244,10 +245,11 @@ fn register_by(fields: OperandFields, rex: Rex, small: bool, modrm: u8) -> u8
     }
 }
 
-/// Reads what stands after the legacy prefixes.
+/// Reads what stands after the legacy prefixes. The row is written once all of it is read.
+#[inline(always)]
 #[tactic(auto, unfolding(svm_model::specs::Instructions::Decoding::body_at))]
-fn read_row(input: &mut Input, prefixes: Prefixes) -> Result<Row, Unread>
-    ensures { Reads result input.new.rest.now (row_at prefixes input.old.rest.now) }
+fn read_row(row: &mut Row, input: &mut Input, prefixes: Prefixes) -> Result<(), Unread>
+    ensures { Reads (in_place result row.new) input.new.rest.now (row_at prefixes input.old.rest.now) }
 {
     let rex = read_rex(input);
     let opened = read_opened(input, prefixes, rex)?;
@@ -255,7 +257,7 @@ fn read_row(input: &mut Input, prefixes: Prefixes) -> Result<Row, Unread>
     let line = opened.line;
     let width = width_of(line.size, prefixes, rex);
     let immediate = read_immediate(input, line.immediate, width)?;
-    Ok(Row {
+    *row = Row {
         op: op_by(line.operation, opened.opcode, opened.modrm),
         form: line.form,
         width,
@@ -264,24 +266,43 @@ fn read_row(input: &mut Input, prefixes: Prefixes) -> Result<Row, Unread>
         operand,
         immediate,
         condition: condition_by(line.operation, opened.opcode),
-    })
+    };
+    Ok(())
 }
 
+/// Reads the form at the front of the bytes: its row into its place, and its length.
 #[tactic(auto, unfolding(svm_model::specs::Instructions::Rows::decoded))]
-fn read_form(bytes: &[u8]) -> Decoded
-    ensures { result ≡ decoded bytes.now }
+pub fn read_form(row: &mut Row, bytes: &[u8]) -> Result<u8, Unread>
+    ensures { answer_in result row.new ≡ decoded bytes.now }
 {
     let mut input = Input { rest: bytes };
     let prefixes = read_prefixes(&mut input);
-    match read_row(&mut input, prefixes) {
-        Ok(row) => Decoded::Row {
-            row,
-            length: (bytes.len() - input.rest.len()) as u8,
-        },
+    read_row(row, &mut input, prefixes)?;
+    Ok((bytes.len() - input.rest.len()) as u8)
+}
+
+/// The answer of what was read, with its row.
+fn answer_in(read: Result<u8, Unread>, row: &Row) -> Decoded
+    ensures { result ≡ answer_in read row.now }
+{
+    match read {
+        Ok(length) => Decoded::Row { row: *row, length },
         Err(Unread::More) => Decoded::More,
         Err(Unread::Unlisted { byte }) => Decoded::Unlisted { byte },
     }
 }
+
+/// The row of no bytes: NOP.
+pub const BLANK: Row = Row {
+    op: Op::Nop,
+    form: Form::Nop90,
+    width: Width::W32,
+    lock: false,
+    register: 0,
+    operand: Operand::None,
+    immediate: 0,
+    condition: 0,
+};
 
 /// Decodes the instruction at the front of the bytes (volume 3, 'Instruction Encoding').
 ///
@@ -300,5 +321,7 @@ pub fn decode(bytes: &[u8]) -> Decoded
     ensures spelled_more { (next : List ℕ) (row : _) → next ≢ [] → IsSpelled (bytes.now ++ next) row → result ≡ Decoded.More }
     ensures few { result ≡ Decoded.More → length bytes.now < 15 }
 {
-    read_form(bytes)
+    let mut row = BLANK;
+    let read = read_form(&mut row, bytes);
+    answer_in(read, &row)
 }

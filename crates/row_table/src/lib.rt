@@ -9,26 +9,33 @@
 //! the columns of the list. The machines use `decode`'s and `plan`'s clauses.
 #![tactic(auto)]
 
+mod bare_rows;
 mod columns;
 mod decoding;
 mod fields;
+mod first_lines;
 mod input;
+mod kept;
 mod locking;
 mod planning;
 mod prefixes;
 mod table;
 
+pub use bare_rows::is_bare;
 pub use columns::{
     columns_agree, counts_by_cl, has_immediate, has_one_operand, is_reversed, is_user_row,
     names_dx, operand_width, takes_lock,
 };
 pub use decoding::decode;
+pub use kept::{Kept, KeptRows};
 pub use locking::{destination, lock_is_undefined};
 pub use planning::plan;
 pub use svm_model::{
     Decoded, Form, Op, Operand, PlannedAccess, Registers, Row, Segment, Touch, Width,
 };
 
+#[cfg(test)]
+mod kept_tests;
 #[cfg(test)]
 mod plan_tests;
 #[cfg(test)]

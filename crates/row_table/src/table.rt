@@ -1,8 +1,9 @@
 // What a line of the table says of an opcode, and the look-ups in the table.
-ghost use Rattle.std.specs.Prelude.{◌≡◌, ◌<◌, ◌≤◌, length};
+ghost use Rattle.std.specs.Prelude.{◌≡◌, ◌<◌, ◌≤◌, Some, length};
 ghost use Rattle.svm_model.specs.Instructions.RowLines.{opens, takes_size, meets, is_allowed, has_modrm, is_control, is_shift_digit, takes_modrm, leads, starts, matches, leading_line, first_line, fitting_line};
 ghost use Rattle.svm_model.specs.Instructions.RowTable.{table};
 
+use crate::first_lines::{first_of_map, first_with};
 use svm_model::{OpcodeMap, OperandFields, OperandSize, Prefixes, Rex, RexNeeds, RowLine, TABLE};
 
 /// Whether the opcode is one of the line's.
@@ -182,26 +183,35 @@ pub fn lines() -> &'static [RowLine]
 pub fn leading_line(prefixes: Prefixes, rex: Rex, map: OpcodeMap) -> Option<RowLine>
     ensures { result ≡ leading_line prefixes rex map table }
 {
-    leading_of(lines(), prefixes, rex, map)
+    let from = first_of_map(map);
+    leading_of(&lines()[from..], prefixes, rex, map)
 }
 
 /// The first line of the table with this opcode.
 pub fn first_line(prefixes: Prefixes, rex: Rex, map: OpcodeMap, opcode: u8) -> Option<RowLine>
     ensures { result ≡ first_line prefixes rex map opcode table }
 {
-    first_of(lines(), prefixes, rex, map, opcode)
+    let from = first_with(map, opcode);
+    first_of(&lines()[from..], prefixes, rex, map, opcode)
 }
 
-/// The first line of the table with this opcode and ModRM byte.
+/// The first line of the table with this opcode and ModRM byte, where the first one with the opcode is known. Mostly it is
+/// that one.
 pub fn fitting_line(
+    first: RowLine,
     prefixes: Prefixes,
     rex: Rex,
     map: OpcodeMap,
     opcode: u8,
     modrm: u8,
 ) -> Option<RowLine>
-    requires { rex.register ≤ 8 }
+    requires register { rex.register ≤ 8 }
+    requires first { first_line prefixes rex map opcode table ≡ Some first }
     ensures { result ≡ fitting_line prefixes rex map opcode modrm table }
 {
-    fitting_of(lines(), prefixes, rex, map, opcode, modrm)
+    if takes_modrm(first.fields, rex, modrm) {
+        return Some(first);
+    }
+    let from = first_with(map, opcode);
+    fitting_of(&lines()[from..], prefixes, rex, map, opcode, modrm)
 }

@@ -12,8 +12,8 @@ pub struct Instruction<'f, 'r> {
 
 /// The accesses of a row: its plan, the words that were read by it, and the numbers of the parts that are there.
 #[derive(Clone, Copy)]
-pub struct RowAccesses<'p> {
+pub struct RowAccesses<'p, 'v, 'n> {
     pub plan: &'p [PlannedAccess],
-    pub values: [u64; 8],
-    pub numbers: [u8; 8],
+    pub values: &'v [u64; 8],
+    pub numbers: &'n [u8; 8],
 }

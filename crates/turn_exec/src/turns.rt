@@ -16,6 +16,7 @@ use crate::works::turn;
 use arrayvec::ArrayVec;
 use host_memory::{GuestWindow, HostMemory, Steps};
 use port_bus::Ports;
+use row_table::KeptRows;
 use std::sync::ledger::Ledger;
 use svm_model::{Facts, Outer, PortWrite, RunEnd, Space, Stepped, Vcpu};
 
@@ -40,6 +41,7 @@ pub fn take_turn<T: Translator, B: Ports, A: Apics, C: Under, L: Ledger>(
     bus: &mut B,
     apics: &mut A,
     control: &C,
+    rows: &mut KeptRows,
     facts: &Facts,
     vcpu: &mut Vcpu,
     interrupt: Option<u8>,
@@ -76,7 +78,7 @@ pub fn take_turn<T: Translator, B: Ports, A: Apics, C: Under, L: Ledger>(
         refused: None,
         denied: None,
     };
-    let stepped = turn(&mut reach, control, facts, vcpu, interrupt);
+    let stepped = turn(&mut reach, control, rows, facts, vcpu, interrupt);
     TurnEnd {
         stepped,
         refused: reach.refused,

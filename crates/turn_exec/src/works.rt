@@ -12,6 +12,7 @@ use crate::faults::{deliver_event, stopped};
 use crate::fetch::instruction;
 use crate::reach::Reach;
 use crate::under::Under;
+use row_table::KeptRows;
 use svm_model::{Cause, Facts, Inside, Registers, Stepped, Trap, Vcpu, Work};
 
 /// RFLAGS.IF.
@@ -149,6 +150,7 @@ fn take_virtual<M: Reach, C: Under>(reach: &mut M, control: &C, vcpu: &mut Vcpu)
 fn execute<M: Reach, C: Under>(
     reach: &mut M,
     control: &C,
+    rows: &mut KeptRows,
     facts: &Facts,
     vcpu: &mut Vcpu,
 ) -> Stepped
@@ -158,7 +160,7 @@ fn execute<M: Reach, C: Under>(
     ensures goes { (next : CameRecord → Course) → Goes M.plays reach.old (instruction_course (C.control control.now) facts.now vcpu.old (finished_course (C.control control.now) vcpu.old next)) reach.new (next (came_to vcpu.new result)) }
     ensures spent { M.spent reach.new ≤ M.spent reach.old + 224 }
 {
-    match instruction(reach, control, facts, vcpu) {
+    match instruction(reach, control, rows, facts, vcpu) {
         Ok(stepped) => stepped,
         Err(stop) => stopped(reach, control, vcpu, stop),
     }
@@ -173,6 +175,7 @@ fn execute<M: Reach, C: Under>(
 pub fn turn<M: Reach, C: Under>(
     reach: &mut M,
     control: &C,
+    rows: &mut KeptRows,
     facts: &Facts,
     vcpu: &mut Vcpu,
     interrupt: Option<u8>,
@@ -189,6 +192,6 @@ pub fn turn<M: Reach, C: Under>(
         Work::Interrupt => take_interrupt(reach, control, vcpu, interrupt),
         Work::Virtual => take_virtual(reach, control, vcpu),
         Work::Nothing => Stepped::Went,
-        Work::Instruction => execute(reach, control, facts, vcpu),
+        Work::Instruction => execute(reach, control, rows, facts, vcpu),
     }
 }
