@@ -2,7 +2,7 @@
 
 The definitions read the image and the script, make of each event what it does, and say the report. What they do not say yet
 stands here: the blocks of a trace, and, for as long as they refuse them, images of version 2, which have a word of
-features in place of the header's zero, and script lines with one of EARLY_WORDS."""
+features in place of the header's zero."""
 
 from itertools import compress, count
 from operator import is_not
@@ -11,7 +11,6 @@ from paged_bytes import PAGE, PagedBytes
 from translation import Model, Program
 
 DEVICES = 16
-EARLY_WORDS = (b"each", b"irq", b"nmi")
 FLUSH_BY_ASID = 1  # the bit of the features that an image of version 2 may set
 
 
@@ -84,70 +83,11 @@ def early_image(data):
 
 def script_said(definitions, data, image):
     """The events of a script, in order."""
-    early = [word for word in EARLY_WORDS if is_not_taken(definitions, word, image)]
-    lines = data.split(b"\n")
-    if any(first_word(line) in early for line in lines):
-        return early_script(definitions, early, lines, image)
-    return events_said(definitions, data, image, 0)
-
-
-def events_said(definitions, data, image, lines_before):
     found = definitions.script_of(list(data), image)
     if variant_name(found) == "Err":
-        line, reason = found[1]["line"] + lines_before, variant_name(found[1]["reason"])
+        line, reason = found[1]["line"], variant_name(found[1]["reason"])
         raise Refused(f"refused script line={line} reason={reason}\n")
-    return definitions.events_of(found[1])
-
-
-def is_not_taken(definitions, word, image):
-    """Whether the definitions refuse a word for itself, and not for what does not follow it."""
-    found = definitions.script_of(list(word), image)
-    return variant_name(found) == "Err" and variant_name(found[1]["reason"]) == "Word"
-
-
-def first_word(line):
-    return next(iter(line.split()), None)
-
-
-def early_script(definitions, early, lines, image):
-    """The events of a script, line by line: those of early words are read here, and have to be well-formed."""
-    events = []
-    for number, line in enumerate(lines):
-        if first_word(line) in early:
-            events += early_events(definitions, line, image, number)
-        else:
-            events += events_said(definitions, line + b"\n", image, number)
-        if len(events) > definitions.event_limit():
-            raise Left(f"line {number + 1} of the script goes past the most events")
-    return events
-
-
-def early_events(definitions, line, image, lines_before):
-    try:
-        return early_line(definitions.variant, line.split(), image)
-    except (ValueError, IndexError) as fault:
-        raise Left(f"line {lines_before + 1} of the script, whose word is not defined yet, is refused") from fault
-
-
-def early_line(event, words, image):
-    word, numbers = words[0], [number_of(text) for text in words[1:]]
-    if word == b"each" and len(numbers) == 1:
-        return [event("Run", {"0": cpu}) for cpu in range(image["cpus"])] * numbers[0]
-    if word == b"irq" and len(numbers) == 3 and 16 <= numbers[2] < 256:
-        return [event("Irq", vcpu_id(numbers[0], numbers[1], image), numbers[2])]
-    if word == b"nmi" and len(numbers) == 2:
-        return [event("Nmi", vcpu_id(numbers[0], numbers[1], image))]
-    raise ValueError(words)
-
-
-def number_of(word):
-    return int(word, 16) if word[:2] == b"0x" else int(word)
-
-
-def vcpu_id(guest, index, image):
-    if index >= len(image["guests"][guest]["vcpus"]):
-        raise ValueError(index)
-    return {"guest": {"0": guest}, "index": index}
+    return definitions.events_of(image["cpus"], found[1])
 
 
 # The run.

@@ -154,6 +154,7 @@ WORDS = {
     "take": (2, take),
     "drop": (2, drop),
     "replicate": (2, replicate),
+    "range_with_len": (2, lambda first, count: list(range(first, first + count))),
     "slice_index": (2, lambda items, index: slice_index_or(items, index, 0)),
     "slice_index_or": (3, slice_index_or),
     "slice_get": (2, slice_get),

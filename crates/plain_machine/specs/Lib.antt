@@ -1,3 +1,7 @@
+pub mod GuestTurns
+pub mod Machines
+pub mod Opening
+pub mod Others
 pub mod Reads
-pub mod Single
+pub mod Slots
 pub mod Turning

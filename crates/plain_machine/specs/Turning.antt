@@ -1,14 +1,12 @@
--- What the turn of the one vcpu gives.
-use Rattle.std.specs.Prelude.{◌≡◌, ℕ, ◌+◌, ◌%◌, ◌^◌, List}
+-- What the executor's turn of a vcpu gives.
+use Rattle.std.specs.Prelude.{◌≡◌, ℕ, ◌+◌, List}
 use Rattle.svm_model.specs.Machine.Bus.{Bus, bus_after_write}
 use Rattle.svm_model.specs.Turn.Course.{Board, Turned}
 use Rattle.svm_model.specs.declared.names.End.TheVariants.{Mode}
 use Rattle.svm_model.specs.declared.ports.PortWrite.{PortWrite}
 use Rattle.svm_model.specs.declared.turns.Stepped.{Stepped}
 use Rattle.svm_model.specs.declared.turns.Stepped.TheVariants.{Went, Leaves, Moves, Ends}
-use Rattle.svm_model.specs.declared.turns.Facts.{Facts}
 use Rattle.svm_model.specs.declared.vcpus.Vcpu.{Vcpu}
-use Rattle.plain_machine.specs.Single.{first_id}
 
 -- how a course comes out, where a row that moves a VMCB ends the guest
 abbrev pub settled_to : Stepped → Stepped
@@ -28,14 +26,3 @@ pub record Gives (turned : Turned) (memory : List ℕ) (board : Board) (vcpu : V
 pub record GrantsLast (call : ℕ) (bus : Bus) (write : PortWrite) (turned : Turned) : Type 0 where
   pub granted : turned.board.bus ≡ bus_after_write bus write
   pub last : turned.board.calls ≡ call + 1
-
--- what a turn of the vcpu knows
-abbrev pub facts_in : ℕ → ℕ → Vcpu → Facts
-facts_in event features vcpu = record {
-  vcpu = first_id;
-  event = event;
-  tsc = (event + vcpu.registers.tsc_add) % 2 ^ 64;
-  apic_id = 0;
-  features = features;
-  tpr = 0;
-}

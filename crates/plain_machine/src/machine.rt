@@ -1,31 +1,34 @@
-// The plain machine: a world of one guest with one vcpu on one processor.
-ghost use Rattle.std.specs.Prelude.{◌≡◌, ℕ, ◌+◌, ◌*◌, ◌^◌, ◌%◌, ◌<◌, ◌≤◌, Bool, true, false, Some, None, Err, List, [], ◌∷◌, length, is_err, is_some, OnOk, OnErr, IfOk, IfErr, IfSome, IsTrue, slice_get, drop, take};
+// The plain machine: its guests in one memory, its processors, and what events do.
+ghost use Rattle.std.specs.Prelude.{◌≡◌, ℕ, ◌+◌, ◌*◌, ◌^◌, ◌%◌, ◌<◌, ◌≤◌, Bool, true, false, Some, None, Err, length, is_err, OnOk, OnErr, IfOk, IfErr, IfSome, slice_get};
 ghost use Rattle.std.specs.Option.{option_map};
-ghost use Rattle.svm_model.specs.Memory.Bytes.{IsWithin, guest_of, byte_at};
+ghost use Rattle.svm_model.specs.Memory.Bytes.{byte_at};
 ghost use Rattle.svm_model.specs.Machine.Guest.{level_in};
-ghost use Rattle.svm_model.specs.Formats.Image.{Image as ImageRecord};
-ghost use Rattle.svm_model.specs.Formats.LawfulImages.{IsLawfulImage, IsLawfulGuest};
+ghost use Rattle.svm_model.specs.Formats.LawfulImages.{IsLawfulImage};
 ghost use Rattle.svm_model.specs.Machine.Events.{event_of, plain_event, placed, changed_guest, guest_with_irq, guest_with_nmi, next_event, with_timers};
 ghost use Rattle.svm_model.specs.Machine.Runs.{reached, reached_of, EndsStay, HandsOver, HandsOverOf, IsOut};
-ghost use Rattle.svm_model.specs.Machine.Shapes.{world_shape, image_shape, is_offered, IsNamed, IsVcpu, IsWellFormed};
-ghost use Rattle.svm_model.specs.Machine.Turns.{end_by, plain_turn, turn_of};
-ghost use Rattle.svm_model.specs.Machine.World.{world_of, first_guest, first_vcpu};
+ghost use Rattle.svm_model.specs.Machine.Shapes.{world_shape, image_shape, IsNamed, IsVcpu, IsWellFormed};
+ghost use Rattle.svm_model.specs.Machine.Turns.{plain_turn, turn_of};
+ghost use Rattle.svm_model.specs.Machine.World.{world_of};
 ghost use Rattle.port_bus.specs.Causes.{Blames, NoneFell};
+ghost use Rattle.plain_machine.specs.Machines.{vcpu_in, guest_in};
+ghost use Rattle.plain_machine.specs.Others.{OthersStay};
 ghost use Rattle.plain_machine.specs.Reads.{is_run};
-ghost use Rattle.plain_machine.specs.Single.{first_id, vcpu_in, guest_in, single_world};
-ghost use Rattle.plain_machine.specs.Turning.{facts_in};
 
-use crate::idle_apic::IdleApic;
-use crate::loading::load_segments;
-use crate::walking::take_turn;
-use host_memory::{GuestWindow, HostMemory, OutsideMemory, Steps};
-use image_format::{GuestImage, Image};
+use crate::changes::{interrupt, make_nmi_pending};
+use crate::lookups::{slot_of, vcpu_at};
+use crate::opening::{open_guests, pages_in};
+use crate::placing::{none_placed, place_on, placed_at};
+use crate::slots::Slot;
+use crate::timers::ring_guests;
+use crate::turns::{Cut, Moment, turn_in};
+use host_memory::{HostMemory, OutsideMemory, Steps};
+use image_format::Image;
 use port_bus::Ports;
 use row_table::KeptRows;
-use std::alloc::{AllocError, Global};
+use std::alloc::Global;
 use std::marker::Model;
 use std::sync::ledger::Ledger;
-use svm_model::{Facts, PortWrite, RunEnd, Stepped, Vcpu};
+use svm_model::{RunEnd, Vcpu};
 use vm_names::{CpuId, Effect, Ended, Event, GuestId, NoMemory, Registers, VcpuId};
 
 /// The plain machine. In clauses it is the world that it runs, and whether it is stopped. The bus of port devices stands
@@ -35,11 +38,8 @@ pub struct PlainMachine {
     version: u16,
     features: u32,
     memory: HostMemory,
-    window: GuestWindow,
-    vcpu: Vcpu,
-    apic: IdleApic,
-    ended: Option<Ended>,
-    placed: Option<VcpuId>,
+    guests: Vec<Slot>,
+    placing: Vec<Option<VcpuId>>,
     event: u32,
     stopped: bool,
     /// Rows that were decoded before, of which no clause speaks.
@@ -47,26 +47,27 @@ pub struct PlainMachine {
 }
 
 impl Model for PlainMachine {
-    ghost use Rattle.std.specs.Prelude.{◌≡◌, ◌%◌, ◌≤◌, None};
-    ghost use Rattle.std.specs.Option.{ForSome};
-    ghost use Rattle.svm_model.specs.Memory.Bytes.{IsWithin, guest_of};
-    ghost use Rattle.plain_machine.specs.Single.{Machine, first_id, single_world};
+    ghost use Rattle.std.specs.Prelude.{length};
+    ghost use Rattle.plain_machine.specs.Machines.{Machine};
+    ghost use Rattle.plain_machine.specs.Slots.{AreInRow, AreThere, counts, guests_at, layouts};
 
     ghost Value = { Machine };
 
     ghost view = { λ m. record {
-      world = single_world m.version m.features (guest_of m.window m.memory.bytes) m.ended m.vcpu m.apic.tpr m.placed m.event;
+      world = record {
+        version = m.version;
+        features = m.features;
+        cpus = length m.placing.items;
+        guests = guests_at m.memory.bytes m.guests.items;
+        placing = m.placing.items;
+        event = m.event;
+      };
       stopped = m.stopped;
     } };
 
-    ghost invariant = { λ m. IsWithin m.window m.memory.bytes × (m.window.size % 4096 ≡ 0) × (4096 ≤ m.window.size) × (m.vcpu.inside ≡ None) × ForSome m.placed (λ id. id ≡ first_id) };
+    ghost invariant = { λ m. AreInRow (length m.memory.bytes) 0 (layouts m.guests.items)
+        × AreThere (counts (layouts m.guests.items)) m.placing.items };
 }
-
-// The one vcpu.
-const FIRST: VcpuId = VcpuId {
-    guest: GuestId(0),
-    index: 0,
-};
 
 // The effect of an event in which nothing ran.
 const NOTHING: Effect = Effect {
@@ -74,54 +75,21 @@ const NOTHING: Effect = Effect {
     ended: None,
 };
 
-/// What cut an event off: the refusal, and the number of the outward call that was refused.
-#[derive(Clone, Copy)]
-struct Cut {
-    end: RunEnd,
-    call: u64,
-}
-
-/// The end that came in a turn of the vcpu.
-fn end_by(stepped: Stepped, event: u32) -> Option<Ended>
-    ensures { result ≡ end_by 0 event stepped }
-{
-    match stepped {
-        Stepped::Ends(end) => Some(Ended {
-            end,
-            vcpu: 0,
-            event,
-        }),
-        Stepped::Went | Stepped::Leaves { .. } | Stepped::Moves { .. } => None,
-    }
-}
-
-/// What a turn of the vcpu knows. The time-stamp counter is the event's number and the vcpu's addend.
-fn facts_of(event: u32, features: u32, vcpu: &Vcpu) -> Facts
-    ensures { result ≡ facts_in event features vcpu.now }
-{
-    Facts {
-        vcpu: FIRST,
-        event,
-        tsc: u64::from(event).wrapping_add(vcpu.registers.tsc_add),
-        apic_id: 0,
-        features,
-        tpr: 0,
-    }
-}
-
 impl PlainMachine {
-    /// A turn of the vcpu. One whose guest was ended does nothing.
-    #[tactic(auto, using(svm_model::proofs::WindowLemmas::windows, port_bus::proofs::Counts::counts))]
+    /// A turn of a vcpu. One whose guest was ended does nothing.
+    #[tactic(auto, using(crate::proofs::Worlds::worlds))]
     fn turn<B: Ports, L: Ledger>(
         &mut self,
+        vcpu: VcpuId,
         bus: &mut B,
         steps: &mut Steps<L>,
     ) -> Result<Option<Ended>, Cut>
-        ensures world { OnOk result (self.new.world ≡ (plain_turn self.old.world (B.bus bus.old) first_id).world) }
-        ensures bus { OnOk result (B.bus bus.new ≡ (plain_turn self.old.world (B.bus bus.old) first_id).bus) }
-        ensures ended { IfOk result (λ ended. ended ≡ (plain_turn self.old.world (B.bus bus.old) first_id).ended) }
-        ensures reached { IfErr result (λ cut. self.new.world ≡ (turn_of (Some cut.call) self.old.world (B.bus bus.old) first_id).world) }
-        ensures out { IfErr result (λ cut. IsOut cut.call self.old.world (B.bus bus.old) first_id) }
+        requires { IsVcpu (world_shape self.old.world) vcpu }
+        ensures world { OnOk result (self.new.world ≡ (plain_turn self.old.world (B.bus bus.old) vcpu).world) }
+        ensures bus { OnOk result (B.bus bus.new ≡ (plain_turn self.old.world (B.bus bus.old) vcpu).bus) }
+        ensures ended { IfOk result (λ ended. ended ≡ (plain_turn self.old.world (B.bus bus.old) vcpu).ended) }
+        ensures reached { IfErr result (λ cut. self.new.world ≡ (turn_of (Some cut.call) self.old.world (B.bus bus.old) vcpu).world) }
+        ensures out { IfErr result (λ cut. IsOut cut.call self.old.world (B.bus bus.old) vcpu) }
         ensures kept { OnErr result (B.bus bus.new ≡ B.bus bus.old) }
         ensures blamed { IfErr result (λ cut. Blames cut.end (B.faults bus.old) (B.faults bus.new)) }
         ensures none_fell { NoneFell (B.faults bus.old) (B.faults bus.new) }
@@ -131,78 +99,60 @@ impl PlainMachine {
         ensures steps { steps.new ≤ steps.old + 896 }
         ensures later { steps.old ≤ steps.new }
     {
-        if self.ended.is_some() {
-            return Ok(None);
-        }
-        let facts = facts_of(self.event, self.features, &self.vcpu);
-        let turn = take_turn(
+        let moment = Moment {
+            vcpu,
+            event: self.event,
+            features: self.features,
+        };
+        turn_in(
             &mut self.memory,
-            self.window,
+            &mut self.guests,
             bus,
-            &mut self.apic,
             &mut self.rows,
-            &facts,
-            &mut self.vcpu,
+            &moment,
             steps,
-        );
-        self.ended = end_by(turn.stepped, self.event);
-        match turn.refused {
-            None => Ok(self.ended),
-            Some(end) => Err(Cut {
-                end,
-                call: turn.calls,
-            }),
-        }
+        )
     }
 
     /// At the start of each event the due timers ring, but those of a guest that was ended.
-    #[tactic(auto, unfolding(svm_model::specs::Machine::Events::with_timers))]
+    #[tactic(auto, using(crate::proofs::Worlds::worlds), unfolding(svm_model::specs::Machine::Events::with_timers))]
     fn ring_timers(&mut self)
         ensures timers { self.new ≡ record { world = with_timers self.old.world; stopped = self.old.stopped } }
         ensures shape { world_shape self.new.world ≡ world_shape self.old.world }
         ensures number { self.new.world.event ≡ self.old.world.event }
     {
-        if self.ended.is_none() {
-            self.apic.expire(self.event);
-        }
+        ring_guests(&mut self.guests, self.event);
     }
 
-    /// Places the vcpu on the processor.
-    #[tactic(auto, using(crate::proofs::Singles::singles))]
+    /// Places a vcpu on a processor.
+    #[tactic(auto, using(crate::proofs::Worlds::worlds))]
     fn place(&mut self, cpu: CpuId, vcpu: VcpuId)
         requires { IsNamed (world_shape self.old.world) (Event.Place cpu vcpu) }
         ensures { self.new ≡ record { world = placed self.old.world cpu vcpu; stopped = self.old.stopped } }
     {
-        let _ = cpu;
-        self.placed = Some(vcpu);
+        place_on(&mut self.placing, cpu, vcpu);
     }
 
     /// The APIC of a vcpu accepts a vector, unless its guest was ended.
-    #[tactic(auto, using(crate::proofs::Singles::singles))]
+    #[tactic(auto, using(crate::proofs::Worlds::worlds))]
     fn interrupt(&mut self, vcpu: VcpuId, vector: u8)
         requires { IsNamed (world_shape self.old.world) (Event.Irq vcpu vector) }
         ensures accepted { self.new ≡ record { world = changed_guest self.old.world vcpu (guest_with_irq vcpu.index vector); stopped = self.old.stopped } }
         ensures shape { world_shape self.new.world ≡ world_shape self.old.world }
         ensures number { self.new.world.event ≡ self.old.world.event }
     {
-        let _ = vcpu;
-        if self.ended.is_none() {
-            self.apic.accept(vector);
-        }
+        interrupt(&mut self.guests, vcpu, vector);
     }
 
     /// An NMI is pending at a vcpu, unless its guest was ended.
-    #[tactic(auto, using(crate::proofs::Singles::singles))]
+    #[tactic(auto, using(crate::proofs::Worlds::worlds))]
     fn make_nmi_pending(&mut self, vcpu: VcpuId)
         requires { IsNamed (world_shape self.old.world) (Event.Nmi vcpu) }
         ensures pending { self.new ≡ record { world = changed_guest self.old.world vcpu (guest_with_nmi vcpu.index); stopped = self.old.stopped } }
         ensures shape { world_shape self.new.world ≡ world_shape self.old.world }
         ensures number { self.new.world.event ≡ self.old.world.event }
     {
-        let _ = vcpu;
-        if self.ended.is_none() {
-            self.vcpu.nmi = true;
-        }
+        make_nmi_pending(&mut self.guests, vcpu);
     }
 
     /// The event is over.
@@ -214,14 +164,13 @@ impl PlainMachine {
     }
 
     /// The vcpu that is placed on the processor.
-    #[tactic(auto, using(crate::proofs::Singles::singles))]
+    #[tactic(auto, using(crate::proofs::Worlds::worlds))]
     fn placed_on(&self, cpu: CpuId) -> Option<VcpuId>
         requires { IsNamed (world_shape self.now.world) (Event.Run cpu) }
         ensures placed { slice_get self.now.world.placing cpu.0 ≡ Some result }
-        ensures first { IfSome result (λ id. id ≡ first_id) }
+        ensures there { IfSome result (IsVcpu (world_shape self.now.world)) }
     {
-        let _ = cpu;
-        self.placed
+        placed_at(&self.placing, cpu)
     }
 
     /// A turn of the vcpu that is placed on the processor, or nothing.
@@ -252,7 +201,7 @@ impl PlainMachine {
             self.finish_event();
             return Ok(NOTHING);
         };
-        let ended = match self.turn(bus, steps) {
+        let ended = match self.turn(vcpu, bus, steps) {
             Ok(ended) => ended,
             Err(cut) => return Err(cut),
         };
@@ -370,6 +319,7 @@ impl PlainMachine {
         ensures kept { OnErr result (B.bus bus.new ≡ B.bus bus.old) }
         ensures blamed { IfErr result (λ end. Blames end (B.faults bus.old) (B.faults bus.new)) }
         ensures none_fell { NoneFell (B.faults bus.old) (B.faults bus.new) }
+        ensures others { OthersStay self.old.world event self.new.world }
         ensures ends_stay { EndsStay self.old.world self.new.world }
         ensures shape { world_shape self.new.world ≡ world_shape self.old.world }
         ensures number { OnOk result (self.new.world.event ≡ self.old.world.event + 1) }
@@ -389,12 +339,12 @@ impl PlainMachine {
 
     /// A law of the machine, whatever it has run: each processor has a place, a vcpu that is placed is there and stands on one
     /// processor alone, and each guest's memory has whole pages.
-    #[tactic(auto, using(crate::proofs::WellFormed::forms))]
     pub fn is_well_formed(&self) -> bool
         ensures answer { result ≡ true }
         ensures world { IsWellFormed self.now.world }
     {
-        self.window.size % 4096 == 0
+        let _ = &self.version;
+        true
     }
 
     /// Whether the machine is stopped, since the bus refused what an event handed it. It then takes no event.
@@ -404,44 +354,46 @@ impl PlainMachine {
         self.stopped
     }
 
+    /// A vcpu, which the image has to have.
+    #[tactic(auto, using(crate::proofs::Worlds::worlds))]
+    fn vcpu(&self, vcpu: VcpuId) -> &Vcpu
+        requires { IsVcpu (world_shape self.now.world) vcpu }
+        ensures { vcpu_in self.now.world vcpu ≡ Some result.now }
+    {
+        vcpu_at(&self.guests, vcpu)
+    }
+
     /// The registers of a vcpu, which the image has to have.
-    #[tactic(auto, using(crate::proofs::Singles::singles))]
     pub fn registers(&self, vcpu: VcpuId) -> &Registers
         requires { IsVcpu (world_shape self.now.world) vcpu }
         ensures { option_map (λ v. v.registers) (vcpu_in self.now.world vcpu) ≡ Some result.now }
     {
-        let _ = vcpu;
-        &self.vcpu.registers
+        &self.vcpu(vcpu).registers
     }
 
     /// The level of a vcpu, which the image has to have: 1, as no vcpu runs a guest of its own.
-    #[tactic(auto, using(crate::proofs::Singles::singles))]
     pub fn level(&self, vcpu: VcpuId) -> u8
         requires { IsVcpu (world_shape self.now.world) vcpu }
         ensures { option_map (λ v. level_in v.inside) (vcpu_in self.now.world vcpu) ≡ Some result }
     {
-        let _ = vcpu;
-        level_of(&self.vcpu)
+        level_of(self.vcpu(vcpu))
     }
 
     /// Whether a vcpu, which the image has to have, is halted.
-    #[tactic(auto, using(crate::proofs::Singles::singles))]
     pub fn is_halted(&self, vcpu: VcpuId) -> bool
         requires { IsVcpu (world_shape self.now.world) vcpu }
         ensures { option_map (λ v. v.halted) (vcpu_in self.now.world vcpu) ≡ Some result }
     {
-        let _ = vcpu;
-        self.vcpu.halted
+        self.vcpu(vcpu).halted
     }
 
     /// The end of a guest, which the image has to have.
-    #[tactic(auto, using(crate::proofs::Singles::singles))]
+    #[tactic(auto, using(crate::proofs::Worlds::worlds))]
     pub fn end_of(&self, guest: GuestId) -> Option<Ended>
         requires { guest.0 < length self.now.world.guests }
         ensures { option_map (λ g. g.ended) (guest_in self.now.world guest) ≡ Some result }
     {
-        let _ = guest;
-        self.ended
+        slot_of(&self.guests, guest).ended
     }
 
     /// How many events there were.
@@ -453,7 +405,7 @@ impl PlainMachine {
 
     /// A byte of the memory of a guest, which the image has to have, by one counted read; or its address, where the guest's
     /// memory does not have it. That memory has fewer than 2^64 bytes.
-    #[tactic(auto, using(crate::proofs::Singles::singles, svm_model::proofs::WindowLemmas::windows))]
+    #[tactic(auto, using(crate::proofs::Worlds::worlds, svm_model::proofs::WindowLemmas::windows))]
     pub fn memory_byte<L: Ledger>(
         &self,
         guest: GuestId,
@@ -465,43 +417,48 @@ impl PlainMachine {
         ensures fits { IfSome (guest_in self.now.world guest) (λ g. length g.memory < 2 ^ 64) }
         ensures steps { steps.new ≡ steps.old + 1 }
     {
-        let _ = guest;
-        // The memory's size has 64 bits.
-        let _size = self.window.size;
+        let slot = slot_of(&self.guests, guest);
+        let _size = size_of(slot);
         let mut bytes = [0; 16];
         self.memory
-            .read_guest(self.window, address, 1, &mut bytes, steps)?;
+            .read_guest(slot.window, address, 1, &mut bytes, steps)?;
         Ok(bytes[0])
     }
 
-    /// The machine that an image starts: the one guest's memory with its segments, its vcpu as it starts, and no vcpu placed.
+    /// The machine that an image starts: the guests' memories with their segments, one behind another, their vcpus as they
+    /// start, and no vcpu placed.
     #[tactic(auto, unfolding(svm_model::specs::Machine::World::world_of))]
     pub fn open(alloc: Global, image: &Image) -> Result<PlainMachine, NoMemory>
         requires lawful { IsLawfulImage image.now }
-        requires offered { is_offered image.now ≡ true }
         ensures world { IfOk result (λ machine. machine.world ≡ world_of image.now) }
         ensures going { IfOk result (λ machine. machine.stopped ≡ false) }
         ensures shape { IfOk result (λ machine. world_shape machine.world ≡ image_shape image.now) }
         ensures well_formed { IfOk result (λ machine. IsWellFormed machine.world) }
         ensures number { IfOk result (λ machine. machine.world.event ≡ 0) }
     {
-        let guest = &image.guests[0];
-        let registers = guest.vcpus[0];
-        let (memory, window) = open_memory(alloc, guest)?;
+        let Ok(mut memory) = HostMemory::new(alloc, pages_in(&image.guests)) else {
+            return Err(NoMemory);
+        };
+        let guests = open_guests(alloc, &mut memory, &image.guests)?;
+        let placing = none_placed(alloc, image.cpus)?;
         Ok(PlainMachine {
             version: image.version,
             features: image.features,
             memory,
-            window,
-            vcpu: first_vcpu(registers),
-            apic: IdleApic { tpr: 0 },
-            ended: None,
-            placed: None,
+            guests,
+            placing,
             event: 0,
             stopped: false,
             rows: KeptRows::new(alloc),
         })
     }
+}
+
+/// How many bytes a guest's memory has, fewer than 2^64.
+fn size_of(slot: &Slot) -> u64
+    ensures { result ≡ slot.now.window.size }
+{
+    slot.window.size
 }
 
 /// L1, or L2 inside a VMCB.
@@ -512,39 +469,4 @@ fn level_of(vcpu: &Vcpu) -> u8
         None => 1,
         Some(_) => 2,
     }
-}
-
-/// A vcpu as it starts, with these registers.
-fn first_vcpu(registers: Registers) -> Vcpu
-    ensures { result ≡ first_vcpu registers }
-{
-    Vcpu {
-        registers,
-        gif: true,
-        nmi: false,
-        nmi_blocked: false,
-        held: None,
-        halted: false,
-        inside: None,
-    }
-}
-
-/// Host memory with a guest's pages and segments in it, and the guest's window.
-#[tactic(auto, using(svm_model::proofs::WindowLemmas::windows))]
-fn open_memory(alloc: Global, guest: &GuestImage) -> Result<(HostMemory, GuestWindow), NoMemory>
-    requires { IsLawfulGuest guest.now }
-    ensures memory { IfOk result (λ r. guest_of r.1 r.0.bytes ≡ (first_guest guest.now).memory) }
-    ensures window { IfOk result (λ r. IsWithin r.1 r.0.bytes) }
-    ensures pages { IfOk result (λ r. r.1.size % 4096 ≡ 0) }
-    ensures some { IfOk result (λ r. 4096 ≤ r.1.size) }
-{
-    let Ok(mut memory) = HostMemory::new(alloc, guest.pages) else {
-        return Err(NoMemory);
-    };
-    let window = GuestWindow {
-        base: 0,
-        size: 4096 * guest.pages as u64,
-    };
-    load_segments(&mut memory, window, &guest.segments);
-    Ok((memory, window))
 }

@@ -29,7 +29,7 @@ pub use columns::{
 pub use decoding::decode;
 pub use kept::{Kept, KeptRows};
 pub use locking::{destination, lock_is_undefined};
-pub use planning::plan;
+pub use planning::{plan, single_access};
 pub use svm_model::{
     Decoded, Form, Op, Operand, PlannedAccess, Registers, Row, Segment, Touch, Width,
 };

@@ -1,5 +1,5 @@
 // Where a row reads and writes.
-ghost use Rattle.std.specs.Prelude.{◌≡◌, ◌≤◌, ◌++◌, ◌+◌, IfSome, [], length};
+ghost use Rattle.std.specs.Prelude.{◌≡◌, ◌≤◌, ◌++◌, ◌+◌, IfSome, [], ◌∷◌, length};
 ghost use Rattle.std.specs.List.{All};
 ghost use Rattle.svm_model.specs.Instructions.Branches.{popped};
 ghost use Rattle.svm_model.specs.Instructions.Operands.{state};
@@ -13,6 +13,7 @@ use svm_model::{Op, PlannedAccess, Registers, Row, Touch, Width};
 
 /// What an instruction does to its memory operand, in the manual's order.
 #[tactic(auto, unfolding(svm_model::specs::Instructions::Planning::touch_of))]
+#[inline(always)]
 fn touch_of(op: Op) -> Option<Touch>
     ensures { result ≡ touch_of op }
 {
@@ -40,7 +41,8 @@ fn touch_of(op: Op) -> Option<Touch>
 }
 
 /// What a row does to its memory operand.
-fn operand_touch(row: &Row) -> Option<Touch>
+#[inline(always)]
+pub fn operand_touch(row: &Row) -> Option<Touch>
     ensures { result ≡ operand_touch row.now }
 {
     if is_reversed(row.form) {
@@ -51,6 +53,7 @@ fn operand_touch(row: &Row) -> Option<Touch>
 }
 
 /// How many bytes an operand in memory has.
+#[inline(always)]
 fn operand_bytes(row: &Row) -> u8
     ensures value { result ≡ operand_bytes row.now }
     ensures some { 1 ≤ result }
@@ -73,6 +76,7 @@ fn is_lgdt_or_lidt(op: Op) -> bool
 }
 
 /// Adds the accesses to the memory at an operand's address.
+#[inline(always)]
 fn plan_memory(row: &Row, address: u64, stack: bool, accesses: &mut ArrayVec<PlannedAccess, 8>)
     requires room { length accesses.now.items ≤ 1 }
     requires lengths { All IsQuadAtMost accesses.now.items }
@@ -107,6 +111,7 @@ fn plan_memory(row: &Row, address: u64, stack: bool, accesses: &mut ArrayVec<Pla
 
 /// Adds the accesses to the operand.
 #[tactic(auto, unfolding(svm_model::specs::Instructions::Planning::operand_accesses))]
+#[inline(always)]
 fn plan_operand(
     row: &Row,
     registers: &Registers,
@@ -153,6 +158,7 @@ fn pop_access(address: u64) -> PlannedAccess
 
 /// What an instruction pushes or pops.
 #[tactic(auto, unfolding(svm_model::specs::Instructions::Planning::stack_access))]
+#[inline(always)]
 fn stack_access(op: Op, registers: &Registers) -> Option<PlannedAccess>
     ensures value { result ≡ stack_access op registers.now }
     ensures lengths { IfSome result IsQuadAtMost }
@@ -183,6 +189,7 @@ fn after_pop(registers: &Registers) -> Registers
 /// an event, IRETQ and the instructions of SVM access is not planned. Nothing is refused: also a row whose LOCK prefix
 /// makes it undefined has its accesses.
 #[tactic(auto, unfolding(svm_model::specs::Instructions::Planning::planned))]
+#[inline(always)]
 pub fn plan(row: &Row, registers: &Registers, next_rip: u64) -> ArrayVec<PlannedAccess, 8>
     ensures exact { result.items ≡ planned row.now registers.now next_rip }
     ensures lengths { All IsQuadAtMost result.items }
@@ -201,4 +208,29 @@ pub fn plan(row: &Row, registers: &Registers, next_rip: u64) -> ArrayVec<Planned
         }
     }
     accesses
+}
+
+/// The one access of a row that has its operand in memory and touches it alone, or none: then `plan` tells. It is what most
+/// rows with accesses do.
+#[inline(always)]
+#[tactic(auto, unfolding(svm_model::specs::Instructions::Planning::planned, svm_model::specs::Instructions::Planning::operand_accesses))]
+pub fn single_access(row: &Row, registers: &Registers, next_rip: u64) -> Option<PlannedAccess>
+    ensures exact { IfSome result (λ access. planned row.now registers.now next_rip ≡ access ∷ []) }
+    ensures length { IfSome result IsQuadAtMost }
+{
+    if stack_access(row.op, registers).is_some() || is_lgdt_or_lidt(row.op) {
+        return None;
+    }
+    if !is_memory(row.operand) {
+        return None;
+    }
+    match operand_touch(row) {
+        None => None,
+        Some(touch) => Some(PlannedAccess {
+            address: linear_address(row.operand, registers, next_rip),
+            length: operand_bytes(row),
+            touch,
+            stack: is_on_stack(row.operand),
+        }),
+    }
 }

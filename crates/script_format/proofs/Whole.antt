@@ -29,15 +29,15 @@ next lines i d h = ap (map (λ l. l.now)) (drop-cons lines i d h) ∙ ap (λ j. 
 
 reads : (shape : Shape) (front : List ScriptLine) (line first : ℕ) (text : List ℕ) (texts : List (List ℕ)) (said : Option ScriptLine)
     → at_line line (said_of shape first text) ≡ Ok said
-    → with_front front (script_from shape line first (text ∷ texts)) ≡ with_front (front ++ option_to_list said) (script_from shape (line + 1) (first + count_of said) texts)
+    → with_front front (script_from shape line first (text ∷ texts)) ≡ with_front (front ++ option_to_list said) (script_from shape (line + 1) (first + count_of shape.cpus said) texts)
 unfolding script_from
 reads shape front line first text texts said h =
-    rw h (regroup front (option_to_list said) (script_from shape (line + 1) (first + count_of said) texts))
+    rw h (regroup front (option_to_list said) (script_from shape (line + 1) (first + count_of shape.cpus said) texts))
 
 -- a line is read
 pub goes_on : (shape : Shape) (front : List ScriptLine) (line first i : ℕ) (lines : List (Bor (List ℕ))) (d : Bor (List ℕ)) (said : Option ScriptLine) (total : Result Script ScriptFault)
     → i < length lines → at_line line (said_of shape first (get_or lines i d).now) ≡ Ok said → with_front front (script_from shape line first (texts_from i lines)) ≡ total
-    → with_front (front ++ option_to_list said) (script_from shape (line + 1) (first + count_of said) (texts_from (i + 1) lines)) ≡ total
+    → with_front (front ++ option_to_list said) (script_from shape (line + 1) (first + count_of shape.cpus said) (texts_from (i + 1) lines)) ≡ total
 goes_on shape front line first i lines d said total within h so_far =
     sym (reads shape front line first (get_or lines i d).now (texts_from (i + 1) lines) said h)
     ∙ ap (λ texts. with_front front (script_from shape line first texts)) (sym (next lines i d within))

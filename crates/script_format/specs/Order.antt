@@ -11,6 +11,7 @@ pub record IsScriptFor (cpus : ℕ) (script : Script) : Type 0 where
   pub processors : shape.cpus ≡ cpus
   pub lawful : IsLawful shape script
 
--- each line's number is that of the events in the lines before it
-abbrev pub AreInOrder : List ScriptLine → Type 0
-AreInOrder lines = (i : ℕ) (d : ScriptLine) → i < length lines → (slice_index_or lines i d).first ≡ length (flat_map events_of_line (take i lines))
+-- each line's number is that of the events in the lines before it, on so many processors
+abbrev pub AreInOrder : ℕ → List ScriptLine → Type 0
+AreInOrder cpus lines =
+    (i : ℕ) (d : ScriptLine) → i < length lines → (slice_index_or lines i d).first ≡ length (flat_map (events_of_line cpus) (take i lines))

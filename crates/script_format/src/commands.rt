@@ -1,26 +1,16 @@
 // What a line says that is no comment.
 
-ghost use Rattle.std.specs.Prelude.{◌≡◌, ◌≤◌, ◌<◌, [], ◌∷◌, map, nat_lt, slice_get, IfOk};
+ghost use Rattle.std.specs.Prelude.{◌≡◌, [], ◌∷◌, map};
 ghost use Rattle.svm_model.specs.Formats.LawfulImages.{IsLawfulImage};
-ghost use Rattle.svm_model.specs.Machine.Bus.{device_count};
-ghost use Rattle.svm_model.specs.Formats.ScriptLines.{command, dump_line, dump_values, feed_line, feed_values, judged, line_of, of_guest, place_line, place_values, run_line, run_values, unplug_line, unplug_values, within_limit};
+ghost use Rattle.svm_model.specs.Formats.ScriptLines.{command, dump_line, dump_values, each_line, each_values, feed_line, feed_values, irq_line, irq_values, line_length, line_of, nmi_line, nmi_values, place_line, place_values, round_length, run_line, run_values, unplug_line, within_limit};
 ghost use Rattle.svm_model.specs.Machine.Shapes.{image_shape};
 
 use crate::numbers::number_in;
+use crate::values::{
+    EVENT_LIMIT, count_in, cpu_in, device_in, length_in, size_in, vcpu_in, vector_in,
+};
 use image_format::Image;
-use svm_model::{CpuId, Event, GuestId, ScriptLine, ScriptReason, VcpuId};
-
-// The most events of a line, and of a script.
-const EVENT_LIMIT: u32 = 1_048_576;
-
-// How many devices there are.
-const DEVICE_COUNT: u64 = 16;
-
-// The most bytes that a dump shows.
-const DUMP_LIMIT: u64 = 256;
-
-// The bytes of a page.
-const PAGE: u64 = 4096;
+use svm_model::{CpuId, Event, GuestId, ScriptLine, ScriptReason};
 
 // So many times the same event, from a number on.
 fn line_of(event: Event, first: u32, times: u32) -> ScriptLine
@@ -34,29 +24,7 @@ fn line_of(event: Event, first: u32, times: u32) -> ScriptLine
     }
 }
 
-// A processor of the image.
-fn cpu_in(image: &Image, cpu: u64) -> Result<CpuId, ScriptReason>
-    ensures { result ≡ judged ScriptReason.Cpu (nat_lt cpu image.now.cpus) (record { 0 = cpu }) }
-{
-    if cpu >= image.cpus as u64 {
-        return Err(ScriptReason::Cpu);
-    }
-    Ok(CpuId(cpu as u8))
-}
-
-// The number of a guest's vcpus.
-fn vcpus_in(image: &Image, guest: u64) -> Result<u8, ScriptReason>
-    requires lawful { IsLawfulImage image.now }
-    ensures count { result ≡ of_guest (slice_get (image_shape image.now).vcpus guest) }
-    ensures few { IfOk result (λ count. (guest < 4) × (count ≤ 8)) }
-{
-    match image.guests.get(guest as usize) {
-        Some(guest) => Ok(guest.vcpus.len() as u8),
-        None => Err(ScriptReason::Guest),
-    }
-}
-
-// The values are looked at in their order.
+// The processor is looked at before the vcpu.
 fn place_values(
     image: &Image,
     first: u32,
@@ -68,14 +36,7 @@ fn place_values(
     ensures { result ≡ place_values (image_shape image.now) first cpu guest vcpu }
 {
     let cpu = cpu_in(image, cpu)?;
-    let count = vcpus_in(image, guest)?;
-    if vcpu >= count as u64 {
-        return Err(ScriptReason::Vcpu);
-    }
-    let vcpu = VcpuId {
-        guest: GuestId(guest as u8),
-        index: vcpu as u8,
-    };
+    let vcpu = vcpu_in(image, guest, vcpu)?;
     Ok(line_of(Event::Place { cpu, vcpu }, first, 1))
 }
 
@@ -114,10 +75,8 @@ fn run_values(image: &Image, first: u32, cpu: u64, count: u64) -> Result<ScriptL
     ensures { result ≡ run_values (image_shape image.now) first cpu count }
 {
     let cpu = cpu_in(image, cpu)?;
-    if count < 1 || count > EVENT_LIMIT as u64 {
-        return Err(ScriptReason::Count);
-    }
-    Ok(line_of(Event::Run { cpu }, first, count as u32))
+    let times = count_in(count)?;
+    Ok(line_of(Event::Run { cpu }, first, times))
 }
 
 // Both are numbers before the value of any is looked at.
@@ -146,14 +105,36 @@ fn run_line(image: &Image, first: u32, words: &[&[u8]]) -> Result<ScriptLine, Sc
     run_words(image, first, cpu, count)
 }
 
-// A device of the bus.
-fn device_in(device: u64) -> Result<u8, ScriptReason>
-    ensures { result ≡ judged ScriptReason.Device (nat_lt device device_count) device }
+// So many rounds of one run on each processor, in their order. The event is the first of them.
+fn each_values(first: u32, count: u64) -> Result<ScriptLine, ScriptReason>
+    ensures { result ≡ each_values first count }
 {
-    if device >= DEVICE_COUNT {
-        return Err(ScriptReason::Device);
-    }
-    Ok(device as u8)
+    let times = count_in(count)?;
+    Ok(ScriptLine {
+        event: Event::Run { cpu: CpuId(0) },
+        first,
+        times,
+        each: true,
+    })
+}
+
+#[tactic(auto, unfolding(svm_model::specs::Formats::ScriptLines::each_line))]
+fn each_word(first: u32, count: &[u8]) -> Result<ScriptLine, ScriptReason>
+    ensures { result ≡ each_line first (count.now ∷ []) }
+{
+    let count = number_in(count)?;
+    each_values(first, count)
+}
+
+// The word behind `each`: how many rounds.
+#[tactic(auto, unfolding(svm_model::specs::Formats::ScriptLines::each_line))]
+fn each_line(first: u32, words: &[&[u8]]) -> Result<ScriptLine, ScriptReason>
+    ensures { result ≡ each_line first (map (λ w. w.now) words.now) }
+{
+    let [count] = words else {
+        return Err(ScriptReason::Words);
+    };
+    each_word(first, count)
 }
 
 // The device is looked at before the value, which has at most 32 bits.
@@ -189,6 +170,88 @@ fn feed_line(first: u32, words: &[&[u8]]) -> Result<ScriptLine, ScriptReason>
     feed_words(first, device, value)
 }
 
+// The vcpu is looked at before the vector.
+fn irq_values(
+    image: &Image,
+    first: u32,
+    guest: u64,
+    vcpu: u64,
+    vector: u64,
+) -> Result<ScriptLine, ScriptReason>
+    requires lawful { IsLawfulImage image.now }
+    ensures { result ≡ irq_values (image_shape image.now) first guest vcpu vector }
+{
+    let vcpu = vcpu_in(image, guest, vcpu)?;
+    let vector = vector_in(vector)?;
+    Ok(line_of(Event::Irq { vcpu, vector }, first, 1))
+}
+
+// All are numbers before the value of any is looked at.
+#[tactic(auto, unfolding(svm_model::specs::Formats::ScriptLines::irq_line))]
+fn irq_words(
+    image: &Image,
+    first: u32,
+    guest: &[u8],
+    vcpu: &[u8],
+    vector: &[u8],
+) -> Result<ScriptLine, ScriptReason>
+    requires lawful { IsLawfulImage image.now }
+    ensures { result ≡ irq_line (image_shape image.now) first (guest.now ∷ vcpu.now ∷ vector.now ∷ []) }
+{
+    let guest = number_in(guest)?;
+    let vcpu = number_in(vcpu)?;
+    let vector = number_in(vector)?;
+    irq_values(image, first, guest, vcpu, vector)
+}
+
+// The words behind `irq`: a guest, a vcpu of it, and the vector that the vcpu's APIC accepts.
+#[tactic(auto, unfolding(svm_model::specs::Formats::ScriptLines::irq_line))]
+fn irq_line(image: &Image, first: u32, words: &[&[u8]]) -> Result<ScriptLine, ScriptReason>
+    requires lawful { IsLawfulImage image.now }
+    ensures { result ≡ irq_line (image_shape image.now) first (map (λ w. w.now) words.now) }
+{
+    let [guest, vcpu, vector] = words else {
+        return Err(ScriptReason::Words);
+    };
+    irq_words(image, first, guest, vcpu, vector)
+}
+
+fn nmi_values(image: &Image, first: u32, guest: u64, vcpu: u64) -> Result<ScriptLine, ScriptReason>
+    requires lawful { IsLawfulImage image.now }
+    ensures { result ≡ nmi_values (image_shape image.now) first guest vcpu }
+{
+    let vcpu = vcpu_in(image, guest, vcpu)?;
+    Ok(line_of(Event::Nmi { vcpu }, first, 1))
+}
+
+// Both are numbers before the value of any is looked at.
+#[tactic(auto, unfolding(svm_model::specs::Formats::ScriptLines::nmi_line))]
+fn nmi_words(
+    image: &Image,
+    first: u32,
+    guest: &[u8],
+    vcpu: &[u8],
+) -> Result<ScriptLine, ScriptReason>
+    requires lawful { IsLawfulImage image.now }
+    ensures { result ≡ nmi_line (image_shape image.now) first (guest.now ∷ vcpu.now ∷ []) }
+{
+    let guest = number_in(guest)?;
+    let vcpu = number_in(vcpu)?;
+    nmi_values(image, first, guest, vcpu)
+}
+
+// The words behind `nmi`: a guest and a vcpu of it.
+#[tactic(auto, unfolding(svm_model::specs::Formats::ScriptLines::nmi_line))]
+fn nmi_line(image: &Image, first: u32, words: &[&[u8]]) -> Result<ScriptLine, ScriptReason>
+    requires lawful { IsLawfulImage image.now }
+    ensures { result ≡ nmi_line (image_shape image.now) first (map (λ w. w.now) words.now) }
+{
+    let [guest, vcpu] = words else {
+        return Err(ScriptReason::Words);
+    };
+    nmi_words(image, first, guest, vcpu)
+}
+
 #[tactic(auto, unfolding(svm_model::specs::Formats::ScriptLines::unplug_line))]
 fn unplug_word(first: u32, device: &[u8]) -> Result<ScriptLine, ScriptReason>
     ensures { result ≡ unplug_line first (device.now ∷ []) }
@@ -209,18 +272,6 @@ fn unplug_line(first: u32, words: &[&[u8]]) -> Result<ScriptLine, ScriptReason>
     unplug_word(first, device)
 }
 
-// The number of the bytes of a guest's memory.
-fn size_in(image: &Image, guest: u64) -> Result<u64, ScriptReason>
-    requires lawful { IsLawfulImage image.now }
-    ensures size { result ≡ of_guest (slice_get (image_shape image.now).sizes guest) }
-    ensures few { IfOk result (λ size. guest < 4) }
-{
-    match image.guests.get(guest as usize) {
-        Some(guest) => Ok(PAGE * u64::from(guest.pages)),
-        None => Err(ScriptReason::Guest),
-    }
-}
-
 // The address is looked at behind the length.
 fn dump_values(
     image: &Image,
@@ -233,14 +284,11 @@ fn dump_values(
     ensures { result ≡ dump_values (image_shape image.now) first guest address length }
 {
     let size = size_in(image, guest)?;
-    if length < 1 || length > DUMP_LIMIT {
-        return Err(ScriptReason::Length);
-    }
-    if address > size || length > size - address {
+    let length = length_in(length)?;
+    if address > size || length as u64 > size - address {
         return Err(ScriptReason::Address);
     }
     let guest = GuestId(guest as u8);
-    let length = length as u16;
     let event = Event::Dump {
         guest,
         address,
@@ -293,8 +341,14 @@ pub fn command(
         place_line(image, first, words)
     } else if word == b"run".as_slice() {
         run_line(image, first, words)
+    } else if word == b"each".as_slice() {
+        each_line(first, words)
     } else if word == b"feed".as_slice() {
         feed_line(first, words)
+    } else if word == b"irq".as_slice() {
+        irq_line(image, first, words)
+    } else if word == b"nmi".as_slice() {
+        nmi_line(image, first, words)
     } else if word == b"unplug".as_slice() {
         unplug_line(first, words)
     } else if word == b"dump".as_slice() {
@@ -304,11 +358,25 @@ pub fn command(
     }
 }
 
-/// The line, where it does not go past the most events.
-pub fn within_limit(line: ScriptLine) -> Result<ScriptLine, ScriptReason>
-    ensures { result ≡ within_limit line }
+// How many events one round of a line has on so many processors: one, or one for each of them.
+fn round_length(cpus: u8, line: &ScriptLine) -> u8
+    ensures { result ≡ round_length cpus line.now }
 {
-    let end = line.first as u64 + line.times as u64;
+    if line.each { cpus } else { 1 }
+}
+
+/// How many events a line has on so many processors.
+pub fn line_length(cpus: u8, line: &ScriptLine) -> u64
+    ensures { result ≡ line_length cpus line.now }
+{
+    line.times as u64 * round_length(cpus, line) as u64
+}
+
+/// The line, where it does not go past the most events.
+pub fn within_limit(cpus: u8, line: ScriptLine) -> Result<ScriptLine, ScriptReason>
+    ensures { result ≡ within_limit cpus line }
+{
+    let end = line.first as u64 + line_length(cpus, &line);
     if end > EVENT_LIMIT as u64 {
         return Err(ScriptReason::Events);
     }

@@ -1,19 +1,20 @@
 // Finds an event of a script.
 
-ghost use Rattle.std.specs.Prelude.{◌≡◌, ◌≤◌, ◌<◌, ◌+◌, ◌↔◌, slice_get, length, take, IsNone};
+ghost use Rattle.std.specs.Prelude.{◌≡◌, ◌≤◌, ◌<◌, ◌+◌, ◌-◌, ◌↔◌, Some, slice_get, length, IfSome, IsNone};
 ghost use Rattle.std.specs.List.{flat_map};
 ghost use Rattle.svm_model.specs.Formats.Script.{events_of_line};
+ghost use Rattle.svm_model.specs.Formats.ScriptLines.{line_length};
 ghost use Rattle.script_format.specs.Order.{AreInOrder};
 
-use svm_model::{Event, ScriptLine};
+use svm_model::{CpuId, Event, ScriptLine};
 
-// The place of the line that has the event of a number.
+// The place of a line that begins at a number or before it, where the next one begins behind it.
 fn line_at(lines: &[ScriptLine], number: u32) -> usize
-    requires in_order { AreInOrder lines.now }
-    requires inside { number < length (flat_map events_of_line lines.now) }
+    requires some { 0 < length lines.now }
+    requires begun { IfSome (slice_get lines.now 0) (λ line. line.first ≤ number) }
     ensures place { result < length lines.now }
-    ensures from { length (flat_map events_of_line (take result lines.now)) ≤ number }
-    ensures to { number < length (flat_map events_of_line (take (result + 1) lines.now)) }
+    ensures from { IfSome (slice_get lines.now result) (λ line. line.first ≤ number) }
+    ensures to { IfSome (slice_get lines.now (result + 1)) (λ line. number < line.first) }
 {
     let mut low = 0;
     let mut high = lines.len();
@@ -28,15 +29,31 @@ fn line_at(lines: &[ScriptLine], number: u32) -> usize
     low
 }
 
-/// The event of a number, counted from 0, of lines that have so many events.
-pub fn event_in(lines: &[ScriptLine], events: u32, number: u32) -> Option<Event>
-    requires in_order { AreInOrder lines.now }
-    requires count { length (flat_map events_of_line lines.now) ≡ events }
-    ensures event { result ≡ slice_get (flat_map events_of_line lines.now) number }
+// The event of a number of a line that has it: of rounds, the run on the processor whose turn it is.
+fn event_on(line: &ScriptLine, number: u32, cpus: u8) -> Event
+    requires from { line.now.first ≤ number }
+    requires to { number < line.now.first + line_length cpus line.now }
+    ensures { slice_get (events_of_line cpus line.now) (number - line.now.first) ≡ Some result }
+{
+    if !line.each {
+        return line.event;
+    }
+    let cpu = (number - line.first) % cpus as u32;
+    Event::Run {
+        cpu: CpuId(cpu as u8),
+    }
+}
+
+/// The event of a number, counted from 0, of lines that have so many events on so many processors.
+pub fn event_in(lines: &[ScriptLine], events: u32, number: u32, cpus: u8) -> Option<Event>
+    requires in_order { AreInOrder cpus lines.now }
+    requires count { length (flat_map (events_of_line cpus) lines.now) ≡ events }
+    ensures event { result ≡ slice_get (flat_map (events_of_line cpus) lines.now) number }
     ensures past { IsNone result ↔ (events ≤ number) }
 {
     if number >= events {
         return None;
     }
-    Some(lines[line_at(lines, number)].event)
+    let place = line_at(lines, number);
+    Some(event_on(&lines[place], number, cpus))
 }

@@ -1,13 +1,13 @@
 // Reads a whole script.
 
-ghost use Rattle.std.specs.Prelude.{◌≡◌, ◌≤◌, length, map, IfOk};
+ghost use Rattle.std.specs.Prelude.{◌≡◌, ◌+◌, ◌≤◌, length, map, IfOk};
 ghost use Rattle.svm_model.specs.Formats.LawfulImages.{IsLawfulImage};
 ghost use Rattle.svm_model.specs.Formats.Script.{IsLawful, at_line, events_of, script_from, script_of};
-ghost use Rattle.svm_model.specs.Formats.ScriptLines.{said_by, said_in, said_of};
+ghost use Rattle.svm_model.specs.Formats.ScriptLines.{line_length, said_by, said_in, said_of};
 ghost use Rattle.svm_model.specs.Machine.Shapes.{image_shape};
 ghost use Rattle.script_format.specs.Reading.{Gives, GivesScript};
 
-use crate::commands::{command, within_limit};
+use crate::commands::{command, line_length, within_limit};
 use crate::lines::lines_of;
 use crate::refusal::ScriptRefusal;
 use crate::script::Script;
@@ -34,7 +34,7 @@ fn said_by(
         return Err(ScriptReason::Bytes);
     }
     let spoken = command(image, first, word, words)?;
-    let kept = within_limit(spoken)?;
+    let kept = within_limit(image.cpus, spoken)?;
     Ok(Some(kept))
 }
 
@@ -79,6 +79,14 @@ fn said_at(
     }
 }
 
+// How many events there are behind a line, where so many come before it.
+fn events_behind(image: &Image, first: u32, said: &ScriptLine) -> u32
+    requires few { first + line_length image.now.cpus said.now ≤ 1048576 }
+    ensures { result ≡ first + line_length image.now.cpus said.now }
+{
+    first + line_length(image.cpus, said) as u32
+}
+
 // The lines, from line 1 on.
 fn script_from(alloc: Global, image: &Image, lines: &[&[u8]]) -> Result<Script, ScriptRefusal>
     requires lawful { IsLawfulImage image.now }
@@ -93,7 +101,7 @@ fn script_from(alloc: Global, image: &Image, lines: &[&[u8]]) -> Result<Script, 
         let Some(said) = said_at(alloc, image, number, events, line)? else {
             continue;
         };
-        events += said.times;
+        events = events_behind(image, events, &said);
         found.push(said)?;
     }
     Ok(Script {
@@ -126,8 +134,8 @@ pub fn parse_script(alloc: Global, bytes: &[u8], image: &Image) -> Result<Script
     ensures exact { GivesScript result (script_of bytes.now image.now) }
     // What holds of each script, for callers that do not look at its bytes.
     ensures lawful { IfOk result (IsLawful (image_shape image.now)) }
-    // The events are as many as the script says.
-    ensures count { IfOk result (λ script. length (events_of script) ≡ script.events) }
+    // Its events, on the image's processors, are as many as it says.
+    ensures count { IfOk result (λ script. length (events_of image.now.cpus script) ≡ script.events) }
 {
     script_of(alloc, bytes, image)
 }

@@ -9,8 +9,9 @@ use crate::events::event_in;
 use std::marker::Model;
 use svm_model::{Event, ScriptLine};
 
-/// A script: its lines in order, without those that say nothing, and the number of its events, at most 1,048,576. In a
-/// clause it is svm_model's record of that name, with the list of the lines.
+/// A script: its lines in order, without those that say nothing, and the number of its events on the processors of its
+/// image, at most 1,048,576. A line is its event `times` times, or, where `each` is true, `times` rounds of one run on
+/// each processor, in their order. In a clause it is svm_model's record of that name, with the list of the lines.
 #[derive(Drop)]
 pub struct Script {
     pub lines: Vec<ScriptLine>,
@@ -27,13 +28,13 @@ impl Model for Script {
 
 impl Script {
     /// The event of a number, counted from 0, of a script for an image of so many processors; `None` past the last one.
-    /// The line is found by halving.
+    /// The line is found by halving. Of rounds it is the run on the processor whose turn it is.
     pub fn event_at(&self, number: u32, cpus: u8) -> Option<Event>
         requires lawful { IsScriptFor cpus self.now }
-        ensures event { result ≡ slice_get (events_of self.now) number }
+        ensures event { result ≡ slice_get (events_of cpus self.now) number }
         ensures past { IsNone result ↔ (self.now.events ≤ number) }
         ensures named { (shape : Shape) → IsLawful shape self.now → IfSome result (IsNamed shape) }
     {
-        event_in(&self.lines, self.events, number)
+        event_in(&self.lines, self.events, number, cpus)
     }
 }

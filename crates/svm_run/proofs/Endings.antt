@@ -36,45 +36,45 @@ other : (m n : ℕ) → m < n → (m == n) ≡ false
 other m n h = grind (arith, nat_tests)
 
 -- the report stands behind all events
-text-all : (bus : Bus) (j : Job) → text_until (length (events_of j.script)) bus j ≡ (completed bus j).text
+text-all : (bus : Bus) (j : Job) → text_until (length (events_of j.image.cpus j.script)) bus j ≡ (completed bus j).text
 unfolding text_until
-text-all bus j = rw (itself (length (events_of j.script))) refl
+text-all bus j = rw (itself (length (events_of j.image.cpus j.script))) refl
 
 -- before there are the texts of events alone
-text-before : (count : ℕ) (bus : Bus) (j : Job) → count < length (events_of j.script) → text_until count bus j ≡ events_text count bus j
+text-before : (count : ℕ) (bus : Bus) (j : Job) → count < length (events_of j.image.cpus j.script) → text_until count bus j ≡ events_text count bus j
 unfolding text_until
-text-before count bus j h = rw (other count (length (events_of j.script)) h) refl
+text-before count bus j h = rw (other count (length (events_of j.image.cpus j.script)) h) refl
 
 -- of all events this is printed
-whole-text : (w v : World) (bus now : Bus) (image : Image) (script : Script) → w ≡ world_of image → v ≡ (plain_run w bus (events_of script)).world → now ≡ (plain_run w bus (events_of script)).bus →
-    texts_of w bus (events_of script) ++ (outcome_after [] (led v now)).text ≡ text_until (length (events_of script)) bus (job image script)
+whole-text : (w v : World) (bus now : Bus) (image : Image) (script : Script) → w ≡ world_of image → v ≡ (plain_run w bus (events_of image.cpus script)).world → now ≡ (plain_run w bus (events_of image.cpus script)).bus →
+    texts_of w bus (events_of image.cpus script) ++ (outcome_after [] (led v now)).text ≡ text_until (length (events_of image.cpus script)) bus (job image script)
 unfolding completed outcome_after
 whole-text w v bus now image script e f g =
-    ap (λ (l : Led). texts_of w bus (events_of script) ++ report l.world l.bus) (led_same _ _ _ _ f g)
-    ∙ ap (λ (u : World). texts_of u bus (events_of script) ++ report (plain_run u bus (events_of script)).world (plain_run u bus (events_of script)).bus) e
+    ap (λ (l : Led). texts_of w bus (events_of image.cpus script) ++ report l.world l.bus) (led_same _ _ _ _ f g)
+    ∙ ap (λ (u : World). texts_of u bus (events_of image.cpus script) ++ report (plain_run u bus (events_of image.cpus script)).world (plain_run u bus (events_of image.cpus script)).bus) e
     ∙ sym (text-all bus (job image script))
 
 -- the texts of so many events
-texts-some : (w : World) (bus : Bus) (image : Image) (script : Script) (count : ℕ) → w ≡ world_of image → texts_of w bus (take count (events_of script)) ≡ events_text count bus (job image script)
+texts-some : (w : World) (bus : Bus) (image : Image) (script : Script) (count : ℕ) → w ≡ world_of image → texts_of w bus (take count (events_of image.cpus script)) ≡ events_text count bus (job image script)
 unfolding events_text
-texts-some w bus image script count e = ap (λ (u : World). texts_of u bus (take count (events_of script))) e
+texts-some w bus image script count e = ap (λ (u : World). texts_of u bus (take count (events_of image.cpus script))) e
 
 -- those before the last print no more
 before-few : (w : World) (bus : Bus) (image : Image) (script : Script) (count : ℕ) → w ≡ world_of image →
-    length (events_text (count - 1) bus (job image script)) ≤ length (texts_of w bus (take count (events_of script)))
+    length (events_text (count - 1) bus (job image script)) ≤ length (texts_of w bus (take count (events_of image.cpus script)))
 before-few w bus image script count e =
-    let P : List ℕ → Type 0 = λ front. length front ≤ length (texts_of w bus (take count (events_of script))) in
-    subst P (texts-some w bus image script (count - 1) e) (texts-grow w bus (events_of script) (count - 1) count (omega arith))
+    let P : List ℕ → Type 0 = λ front. length front ≤ length (texts_of w bus (take count (events_of image.cpus script))) in
+    subst P (texts-some w bus image script (count - 1) e) (texts-grow w bus (events_of image.cpus script) (count - 1) count (omega arith))
 
 before-all : (w : World) (bus : Bus) (image : Image) (script : Script) → w ≡ world_of image →
-    length (events_text (length (events_of script) - 1) bus (job image script)) ≤ length (texts_of w bus (events_of script))
+    length (events_text (length (events_of image.cpus script) - 1) bus (job image script)) ≤ length (texts_of w bus (events_of image.cpus script))
 before-all w bus image script e =
-    let P : List Event → Type 0 = λ es. length (events_text (length (events_of script) - 1) bus (job image script)) ≤ length (texts_of w bus es) in
-    subst P (take-length (events_of script)) (before-few w bus image script (length (events_of script)) e)
+    let P : List Event → Type 0 = λ es. length (events_text (length (events_of image.cpus script) - 1) bus (job image script)) ≤ length (texts_of w bus es) in
+    subst P (take-length (events_of image.cpus script)) (before-few w bus image script (length (events_of image.cpus script)) e)
 
 before-none : (bus : Bus) (j : Job) → length (events_text 0 bus j) ≤ 0
 unfolding events_text
-before-none bus j = texts_none (world_of j.image) bus (events_of j.script)
+before-none bus j = texts_none (world_of j.image) bus (events_of j.image.cpus j.script)
 
 -- there was no memory for the machine
 pub ends-unstarted : (code : ℕ) (blame : Blame) (line : List ℕ) (j : Job) (bus : Bus) (old new : Option (List ℕ)) (r : Type 0) →
@@ -109,17 +109,17 @@ received-all NoMemory old mid new before front text r s run few e cause h =
 received-all LeftProfile old mid new before front text r s run few e cause h = h ∙ ap (λ (o : Option (List ℕ)). appended o text) e ∙ appended-twice old front text
 
 pub ends-finished : (status : Status) (w v : World) (bus now : Bus) (image : Image) (script : Script) (old mid new : Option (List ℕ)) (r s : Type 0) →
-    w ≡ world_of image → v ≡ (plain_run w bus (events_of script)).world → now ≡ (plain_run w bus (events_of script)).bus → mid ≡ appended old (texts_of w bus (events_of script)) →
+    w ≡ world_of image → v ≡ (plain_run w bus (events_of image.cpus script)).world → now ≡ (plain_run w bus (events_of image.cpus script)).bus → mid ≡ appended old (texts_of w bus (events_of image.cpus script)) →
     ((count : ℕ) → IsReached (meaning_of status).events count count) → ((count : ℕ) (b : Bus) (j : Job) → IsRefusedAt (meaning_of status).events count b j) → (IsBeforeRun status → ⊥) → (r → s) →
     Receives (meaning_of status).printed [] (outcome_after [] (led v now)).text (status_line status) mid new r →
     EndsRun (meaning_of status) (status_line status) (job image script) bus now old new s
 ends-finished status w v bus now image script old mid new r s e f g texts h k run cause p =
-    let before = events_text (length (events_of script) - 1) bus (job image script) in
-    let all = received-all status old mid new before (texts_of w bus (events_of script)) (outcome_after [] (led v now)).text r s run (before-all w bus image script e) texts cause p in
+    let before = events_text (length (events_of image.cpus script) - 1) bus (job image script) in
+    let all = received-all status old mid new before (texts_of w bus (events_of image.cpus script)) (outcome_after [] (led v now)).text r s run (before-all w bus image script e) texts cause p in
     record {
-      count = length (events_of script);
-      reached = h (length (events_of script));
-      refused_at = k (length (events_of script)) bus (job image script);
+      count = length (events_of image.cpus script);
+      reached = h (length (events_of image.cpus script));
+      refused_at = k (length (events_of image.cpus script)) bus (job image script);
       bus = bus-all w bus now image script e g;
       printed =
           let P : List ℕ → Type 0 = λ text. Receives (meaning_of status).printed before text (status_line status) old new s in
@@ -129,13 +129,13 @@ ends-finished status w v bus now image script old mid new r s e f g texts h k ru
 -- The run was ended before.
 
 -- what was printed until a number of events that are not all
-text-at : (w : World) (bus : Bus) (image : Image) (script : Script) (count : ℕ) → w ≡ world_of image → count < length (events_of script) →
-    text_until count bus (job image script) ≡ texts_of w bus (take count (events_of script))
+text-at : (w : World) (bus : Bus) (image : Image) (script : Script) (count : ℕ) → w ≡ world_of image → count < length (events_of image.cpus script) →
+    text_until count bus (job image script) ≡ texts_of w bus (take count (events_of image.cpus script))
 text-at w bus image script count e h = text-before count bus (job image script) h ∙ sym (texts-some w bus image script count e)
 
 -- the bus refused what an event handed it
 ends-refused : (code : ℕ) (blame : Blame) (line : List ℕ) (w : World) (bus now : Bus) (image : Image) (script : Script) (old mid new : Option (List ℕ)) (r : Type 0) →
-    w ≡ world_of image → IsCutAt w (events_of script) bus now old mid → ReceivesLine mid new line r →
+    w ≡ world_of image → IsCutAt w (events_of image.cpus script) bus now old mid → ReceivesLine mid new line r →
     EndsRun (meaning code NotAllEvents TextThenLine blame) line (job image script) bus now old new r
 ends-refused code blame line w bus now image script old mid new r e cut h =
     let j = job image script in
@@ -145,8 +145,8 @@ ends-refused code blame line w bus now image script old mid new r e cut h =
       count = stop.count;
       reached = stop.short;
       refused_at =
-          let P : World → Type 0 = λ u. HandsOverIt u (led_until stop.count bus j).bus (slice_get (events_of script) stop.count) in
-          let Q : Bus → Type 0 = λ b. HandsOverIt (plain_run w bus (take stop.count (events_of script))).world b (slice_get (events_of script) stop.count) in
+          let P : World → Type 0 = λ u. HandsOverIt u (led_until stop.count bus j).bus (slice_get (events_of image.cpus script) stop.count) in
+          let Q : Bus → Type 0 = λ b. HandsOverIt (plain_run w bus (take stop.count (events_of image.cpus script))).world b (slice_get (events_of image.cpus script) stop.count) in
           subst P (ap (λ (l : Led). l.world) (led-some w bus image script stop.count e)) (subst Q there cut.refused);
       bus = there;
       printed =
@@ -156,11 +156,11 @@ ends-refused code blame line w bus now image script old mid new r e cut h =
 
 -- there was no memory for an event
 ends-stopped : (code : ℕ) (blame : Blame) (line : List ℕ) (w : World) (bus now : Bus) (image : Image) (script : Script) (old mid new : Option (List ℕ)) (r : Type 0) →
-    w ≡ world_of image → IsStoppedAt w (events_of script) bus now old mid → ReceivesLine mid new line r →
+    w ≡ world_of image → IsStoppedAt w (events_of image.cpus script) bus now old mid → ReceivesLine mid new line r →
     EndsRun (meaning code FirstEvents PartThenLine blame) line (job image script) bus now old new r
 ends-stopped code blame line w bus now image script old mid new r e stop h =
     let j = job image script in
-    let front = texts_of w bus (take stop.count (events_of script)) in
+    let front = texts_of w bus (take stop.count (events_of image.cpus script)) in
     record {
       count = stop.count;
       reached = omega (arith, stop.short);
@@ -174,46 +174,46 @@ ends-stopped code blame line w bus now image script old mid new r e stop h =
 
 -- The sink refused what an event prints.
 
-rest-all : (w : World) (bus : Bus) (image : Image) (script : Script) (count : ℕ) → w ≡ world_of image → count ≡ length (events_of script) →
-    (rest : List ℕ) × (text_until count bus (job image script) ≡ texts_of w bus (take count (events_of script)) ++ rest)
+rest-all : (w : World) (bus : Bus) (image : Image) (script : Script) (count : ℕ) → w ≡ world_of image → count ≡ length (events_of image.cpus script) →
+    (rest : List ℕ) × (text_until count bus (job image script) ≡ texts_of w bus (take count (events_of image.cpus script)) ++ rest)
 rest-all w bus image script count e same =
-    let now = plain_run w bus (events_of script) in
+    let now = plain_run w bus (events_of image.cpus script) in
     let rest = (outcome_after [] (led now.world now.bus)).text in
-    let whole : take count (events_of script) ≡ events_of script = ap (λ n. take n (events_of script)) same ∙ take-length (events_of script) in (
+    let whole : take count (events_of image.cpus script) ≡ events_of image.cpus script = ap (λ n. take n (events_of image.cpus script)) same ∙ take-length (events_of image.cpus script) in (
       rest,
       ap (λ n. text_until n bus (job image script)) same ∙ sym (whole-text w now.world bus now.bus image script e refl refl)
           ∙ ap (λ es. texts_of w bus es ++ rest) (sym whole),
     )
 
 -- what stands behind the texts of so many events: nothing, or the report
-rest-of : (w : World) (bus : Bus) (image : Image) (script : Script) (count : ℕ) → w ≡ world_of image → count ≤ length (events_of script) →
-    (rest : List ℕ) × (text_until count bus (job image script) ≡ texts_of w bus (take count (events_of script)) ++ rest)
+rest-of : (w : World) (bus : Bus) (image : Image) (script : Script) (count : ℕ) → w ≡ world_of image → count ≤ length (events_of image.cpus script) →
+    (rest : List ℕ) × (text_until count bus (job image script) ≡ texts_of w bus (take count (events_of image.cpus script)) ++ rest)
 rest-of w bus image script count e h =
     elim (eq-or-lt_of_le h) [ inl same ↦ rest-all w bus image script count e same | inr less ↦ ([], text-at w bus image script count e less ∙ sym (append-nil _)) ]
 
 -- a number of events, and the one behind them that was not wholly printed
 abbrev IsBehind : World → Bus → Bus → Image → Script → ℕ → Option (List ℕ) → Option (List ℕ) → Option Event → Type 0
 IsBehind w bus now image script n old mid event =
-    (n < length (events_of script)) × (now ≡ (plain_run w bus (take (n + 1) (events_of script))).bus)
-    × IsCutShort (appended old (texts_of w bus (take n (events_of script)))) mid (text_at (plain_run w bus (take n (events_of script))).world event)
+    (n < length (events_of image.cpus script)) × (now ≡ (plain_run w bus (take (n + 1) (events_of image.cpus script))).bus)
+    × IsCutShort (appended old (texts_of w bus (take n (events_of image.cpus script)))) mid (text_at (plain_run w bus (take n (events_of image.cpus script))).world event)
 
 -- the text that it was cut of
-cut-text : (w : World) (bus : Bus) (image : Image) (script : Script) (n : ℕ) (event : Event) → w ≡ world_of image → n < length (events_of script) → slice_get (events_of script) n ≡ Some event →
-    (rest : List ℕ) × (text_until (n + 1) bus (job image script) ≡ texts_of w bus (take n (events_of script)) ++ (event_text (plain_run w bus (take n (events_of script))).world event ++ rest))
+cut-text : (w : World) (bus : Bus) (image : Image) (script : Script) (n : ℕ) (event : Event) → w ≡ world_of image → n < length (events_of image.cpus script) → slice_get (events_of image.cpus script) n ≡ Some event →
+    (rest : List ℕ) × (text_until (n + 1) bus (job image script) ≡ texts_of w bus (take n (events_of image.cpus script)) ++ (event_text (plain_run w bus (take n (events_of image.cpus script))).world event ++ rest))
 cut-text w bus image script n event e short there =
     let more = rest-of w bus image script (n + 1) e (omega (arith, short)) in (
       more.0,
-      more.1 ∙ ap (λ front. front ++ more.0) (texts_next w bus (events_of script) n event there)
-          ∙ append_assoc (texts_of w bus (take n (events_of script))) (event_text (plain_run w bus (take n (events_of script))).world event) more.0,
+      more.1 ∙ ap (λ front. front ++ more.0) (texts_next w bus (events_of image.cpus script) n event there)
+          ∙ append_assoc (texts_of w bus (take n (events_of image.cpus script))) (event_text (plain_run w bus (take n (events_of image.cpus script))).world event) more.0,
     )
 
 -- all that the events before it print
 before-it : (w : World) (bus : Bus) (image : Image) (script : Script) (n : ℕ) → w ≡ world_of image →
-    length (events_text (n + 1 - 1) bus (job image script)) ≤ length (texts_of w bus (take n (events_of script)))
+    length (events_text (n + 1 - 1) bus (job image script)) ≤ length (texts_of w bus (take n (events_of image.cpus script)))
 before-it w bus image script n e =
     let same : n ≡ n + 1 - 1 = omega arith in
-    let P : ℕ → Type 0 = λ m. length (events_text m bus (job image script)) ≤ length (texts_of w bus (take n (events_of script))) in
-    let Q : List ℕ → Type 0 = λ text. length text ≤ length (texts_of w bus (take n (events_of script))) in
+    let P : ℕ → Type 0 = λ m. length (events_text m bus (job image script)) ≤ length (texts_of w bus (take n (events_of image.cpus script))) in
+    let Q : List ℕ → Type 0 = λ text. length text ≤ length (texts_of w bus (take n (events_of image.cpus script))) in
     subst P same (subst Q (texts-some w bus image script n e) (omega arith))
 
 nothing-more : (mid new : Option (List ℕ)) (r : Type 0) → ReceivesLine mid new [] r → mid ≡ new
@@ -221,7 +221,7 @@ nothing-more mid new r h = elim h [ inl e ↦ sym (e ∙ appended-nothing mid) |
 
 -- the sink had a fault
 ends-cut : (code : ℕ) (blame : Blame) (w : World) (bus now : Bus) (image : Image) (script : Script) (n : ℕ) (old mid new : Option (List ℕ)) (event : Option Event) (r : Type 0) →
-    w ≡ world_of image → slice_get (events_of script) n ≡ event → IsBehind w bus now image script n old mid event → ReceivesLine mid new [] r →
+    w ≡ world_of image → slice_get (events_of image.cpus script) n ≡ event → IsBehind w bus now image script n old mid event → ReceivesLine mid new [] r →
     EndsRun (meaning code EventsToLine PartOfText blame) [] (job image script) bus now old new r
 ends-cut code blame w bus now image script n old mid new None r e there cut h = absurd (let short = cut.2.short in omega (arith, short))
 ends-cut code blame w bus now image script n old mid new (Some event) r e there cut h =
@@ -235,14 +235,14 @@ ends-cut code blame w bus now image script n old mid new (Some event) r e there 
       bus = bus-some w bus now image script (n + 1) e cut.1;
       printed =
           let P : List ℕ → Type 0 = λ t. IsCutBehind old new before t in
-          let Q : Option (List ℕ) → Type 0 = λ o. IsCutShort (appended old (texts_of w bus (take n (events_of script)))) o (event_text (plain_run w bus (take n (events_of script))).world event) in
+          let Q : Option (List ℕ) → Type 0 = λ o. IsCutShort (appended old (texts_of w bus (take n (events_of image.cpus script)))) o (event_text (plain_run w bus (take n (events_of image.cpus script))).world event) in
           subst P (sym text.1)
           (cut_behind old new before _ _ text.0 (before-it w bus image script n e) (subst Q (nothing-more mid new r h) cut.2));
     }
 
 -- the sink had no memory
 ends-full : (code : ℕ) (blame : Blame) (line : List ℕ) (w : World) (bus now : Bus) (image : Image) (script : Script) (n : ℕ) (old mid new : Option (List ℕ)) (event : Option Event) (r : Type 0) →
-    w ≡ world_of image → slice_get (events_of script) n ≡ event → IsBehind w bus now image script n old mid event → ReceivesLine mid new line r →
+    w ≡ world_of image → slice_get (events_of image.cpus script) n ≡ event → IsBehind w bus now image script n old mid event → ReceivesLine mid new line r →
     EndsRun (meaning code FirstEvents PartThenLine blame) line (job image script) bus now old new r
 ends-full code blame line w bus now image script n old mid new None r e there cut h = absurd (let short = cut.2.short in omega (arith, short))
 ends-full code blame line w bus now image script n old mid new (Some event) r e there cut h =
@@ -262,15 +262,15 @@ ends-full code blame line w bus now image script n old mid new (Some event) r e 
 
 -- whatever ended the run before all was done
 pub ends-early : (fault : RunFault) (w : World) (bus now : Bus) (image : Image) (script : Script) (old mid new : Option (List ℕ)) (r s : Type 0) → w ≡ world_of image →
-    EndsEvents fault w (events_of script) bus now old mid → (r → s) → ReceivesLine mid new (status_line (status_of fault)) r →
+    EndsEvents fault w (events_of image.cpus script) bus now old mid → (r → s) → ReceivesLine mid new (status_line (status_of fault)) r →
     EndsRun (meaning_of (status_of fault)) (status_line (status_of fault)) (job image script) bus now old new s
 ends-early fault.NoMemory w bus now image script old mid new r s e stop cause h = ends-stopped _ _ _ w bus now image script old mid new s e stop (because mid new _ r s cause h)
 ends-early (fault.Bus (FailedDevice device)) w bus now image script old mid new r s e stop cause h = ends-refused _ _ _ w bus now image script old mid new s e stop (because mid new _ r s cause h)
 ends-early (fault.Bus NoRoom) w bus now image script old mid new r s e stop cause h = ends-stopped _ _ _ w bus now image script old mid new s e stop.stopped (because mid new _ r s cause h)
 ends-early (fault.Sink sink.Failed) w bus now image script old mid new r s e stop cause h =
-    ends-cut _ _ w bus now image script stop.count old mid new (slice_get (events_of script) stop.count) s e refl (stop.short, stop.bus, stop.printed) (because mid new _ r s cause h)
+    ends-cut _ _ w bus now image script stop.count old mid new (slice_get (events_of image.cpus script) stop.count) s e refl (stop.short, stop.bus, stop.printed) (because mid new _ r s cause h)
 ends-early (fault.Sink sink.NoMemory) w bus now image script old mid new r s e stop cause h =
-    ends-full _ _ _ w bus now image script stop.count old mid new (slice_get (events_of script) stop.count) s e refl (stop.short, stop.bus, stop.printed) (because mid new _ r s cause h)
+    ends-full _ _ _ w bus now image script stop.count old mid new (slice_get (events_of image.cpus script) stop.count) s e refl (stop.short, stop.bus, stop.printed) (because mid new _ r s cause h)
 
 -- its status is not determined, comes of a run, and has a cause
 pub undetermined : (fault : RunFault) → IsDetermined (status_of fault) → ⊥

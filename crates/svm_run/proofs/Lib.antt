@@ -1,5 +1,6 @@
 pub mod Endings
 pub mod Events
+pub mod Firsts
 pub mod Received
 pub mod Reports
 pub mod Runs

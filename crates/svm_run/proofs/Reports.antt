@@ -1,67 +1,65 @@
--- The report of a world of one guest with one vcpu.
-use Rattle.std.proofs.Common.{◌≡◌, ◌∙◌, ℕ, Bool, true, false, if◌then◌else◌, Option, Some, List, [], ◌∷◌, ◌++◌, length, map, ap, refl, arith, is_some, slice_get, append_assoc, append-nil}
+-- The report of a world, guest by guest and vcpu by vcpu.
+use Rattle.std.proofs.Common.{◌≡◌, ◌∙◌, ℕ, zero, suc, ◌+◌, true, Option, Some, None, List, [], ◌∷◌, ◌++◌, length, map, drop, ap, sym, refl, arith, add-one, is_some, slice_get, append_assoc, append-nil}
 use Rattle.std.specs.Option.{option_map}
+use Rattle.std.proofs.lemmas.List.{drop_all}
+use Rattle.std.proofs.lemmas.Option.{slice_get-map}
 use Rattle.svm_model.specs.Machine.Bus.{Bus, Device}
 use Rattle.svm_model.specs.Machine.Guest.{Guest, level_in}
-use Rattle.svm_model.specs.Formats.Text.{report, events_line, guest_line, vcpu_line, out_lines, guest_lines, vcpu_lines}
-use Rattle.svm_model.specs.Machine.Shapes.{world_shape, IsSingle}
+use Rattle.svm_model.specs.Formats.Text.{report, guest_lines, vcpu_line, vcpu_lines}
 use Rattle.svm_model.specs.Machine.World.{World}
 use Rattle.svm_model.specs.declared.names.Ended.{Ended}
 use Rattle.svm_model.specs.declared.ports.PortWrite.{PortWrite}
-use Rattle.svm_model.specs.declared.register_file.Registers.{Registers}
 use Rattle.svm_model.specs.declared.vcpus.Vcpu.{Vcpu}
-use Rattle.plain_machine.specs.Single.{first_id, guest_in, vcpu_in, vcpu_of}
+use Rattle.plain_machine.specs.Machines.{vcpu_of}
 use Rattle.svm_run.specs.Outcome.{has_ended, outcome_after}
 
-counts : (w : World) → IsSingle (world_shape w) → map (λ (g : Guest). length g.vcpus) w.guests ≡ 1 ∷ []
-counts w h = h.vcpus
+-- the lines from one vcpu on are its line, and those from the next on
+vcpu-next : (vcpus : List Vcpu) (guest index n : ℕ) (text text' : List ℕ) → option_map (λ v. text ++ vcpu_line guest index (level_in v.inside) v.halted v.registers) (slice_get vcpus n) ≡ Some text' →
+    text' ++ vcpu_lines guest (index + 1) (drop (suc n) vcpus) ≡ text ++ vcpu_lines guest index (drop n vcpus)
+vcpu-next [] guest index n text text' e = absurd (cc)
+vcpu-next (v ∷ vcpus) guest index zero text text' e =
+    let same : text' ≡ text ++ vcpu_line guest index (level_in v.inside) v.halted v.registers = cc in
+    ap (λ (t : List ℕ). t ++ vcpu_lines guest (index + 1) vcpus) same ∙ append_assoc text _ _
+vcpu-next (v ∷ vcpus) guest index (suc n) text text' e = vcpu-next vcpus guest index n text text' e
 
-same_test : (t : Bool) → t ≡ (if t then true else false)
-same_test true = refl
-same_test false = refl
+pub vcpus_next : (o : Option Guest) (guest n : ℕ) (text text' : List ℕ) → option_map (λ v. text ++ vcpu_line guest n (level_in v.inside) v.halted v.registers) (vcpu_of o n) ≡ Some text' →
+    option_map (λ g. text' ++ vcpu_lines guest (n + 1) (drop (n + 1) g.vcpus)) o ≡ option_map (λ g. text ++ vcpu_lines guest n (drop n g.vcpus)) o
+vcpus_next None guest n text text' e = refl
+vcpus_next (Some g) guest n text text' e =
+    ap (λ k. Some (text' ++ vcpu_lines guest (n + 1) (drop k g.vcpus))) (add-one n) ∙ ap Some (vcpu-next g.vcpus guest n n text text' e)
 
-ended_in : (guests : List Guest) (e : Option Ended) → map (λ (g : Guest). length g.vcpus) guests ≡ 1 ∷ [] → option_map (λ g. g.ended) (slice_get guests 0) ≡ Some e → is_some e ≡ has_ended guests
-ended_in [] e h s = absurd (cc)
-ended_in (g ∷ []) e h s = let same : e ≡ g.ended = cc in ap (λ (o : Option Ended). is_some o) same ∙ same_test (is_some g.ended)
-ended_in (g ∷ k ∷ guests) e h s = absurd (cc)
+none_left : (o : Option Guest) (guest count : ℕ) (text : List ℕ) → option_map (λ g. length g.vcpus) o ≡ Some count → option_map (λ g. text ++ vcpu_lines guest count (drop count g.vcpus)) o ≡ Some text
+none_left None guest count text e = absurd (cc)
+none_left (Some g) guest count text e =
+    let all : length g.vcpus ≡ count = cc in
+    ap (λ (vs : List Vcpu). Some (text ++ vcpu_lines guest count vs)) (drop_all count g.vcpus (omega arith)) ∙ ap Some (append-nil text)
 
--- whether the one guest was ended
-pub ended_by : (w : World) (e : Option Ended) (t : Bool) → IsSingle (world_shape w) → option_map (λ g. g.ended) (guest_in w first_id.guest) ≡ Some e → t ≡ is_some e → t ≡ has_ended w.guests
-ended_by w e t h s u = u ∙ ended_in w.guests e (counts w h) s
+-- behind the last vcpu
+pub vcpus_all : (guests : List Guest) (guest count : ℕ) (text : List ℕ) → slice_get (map (λ (g : Guest). length g.vcpus) guests) guest ≡ Some count →
+    option_map (λ g. text ++ vcpu_lines guest count (drop count g.vcpus)) (slice_get guests guest) ≡ Some text
+vcpus_all guests guest count text e = none_left (slice_get guests guest) guest count text (sym (slice_get-map (λ (g : Guest). length g.vcpus) guests guest) ∙ e)
 
-grouped : (a b c d : List ℕ) → a ++ b ++ c ++ d ≡ a ++ (b ++ ((c ++ []) ++ (d ++ [])))
-grouped a b c d = simp (append_assoc, append-nil)
+-- what is told from one guest on is what is told of it, and from the next on
+guest-next : (guests : List Guest) (output : List PortWrite) (number n : ℕ) (text text' : List ℕ) → option_map (λ g. text ++ guest_lines output number (g ∷ [])) (slice_get guests n) ≡ Some text' →
+    text' ++ guest_lines output (number + 1) (drop (suc n) guests) ≡ text ++ guest_lines output number (drop n guests)
+guest-next [] output number n text text' e = absurd (cc)
+guest-next (g ∷ guests) output number zero text text' e =
+    let same : text' ≡ text ++ guest_lines output number (g ∷ []) = cc in
+    rw same (simp (append_assoc, append-nil))
+guest-next (g ∷ guests) output number (suc n) text text' e = guest-next guests output number n text text' e
 
-vcpu_report : (vcpus : List Vcpu) (level : ℕ) (halted : Bool) (r : Registers) → length vcpus ≡ 1 → option_map (λ v. level_in v.inside) (slice_get vcpus 0) ≡ Some level →
-    option_map (λ v. v.halted) (slice_get vcpus 0) ≡ Some halted → option_map (λ v. v.registers) (slice_get vcpus 0) ≡ Some r → vcpu_line 0 0 level halted r ++ [] ≡ vcpu_lines 0 0 vcpus
-vcpu_report [] level halted r h l t u = absurd (cc)
-vcpu_report (v ∷ []) level halted r h l t u =
-    let inside : level ≡ level_in v.inside = cc in
-    let ready : halted ≡ v.halted = cc in
-    let same : r ≡ v.registers = cc in
-    rw (inside, ready, same) refl
-vcpu_report (v ∷ w ∷ vcpus) level halted r h l t u = absurd (omega arith)
+pub guests_next : (guests : List Guest) (output : List PortWrite) (n : ℕ) (text text' : List ℕ) → option_map (λ g. text ++ guest_lines output n (g ∷ [])) (slice_get guests n) ≡ Some text' →
+    text' ++ guest_lines output (n + 1) (drop (n + 1) guests) ≡ text ++ guest_lines output n (drop n guests)
+guests_next guests output n text text' e =
+    ap (λ k. text' ++ guest_lines output (n + 1) (drop k guests)) (add-one n) ∙ guest-next guests output n n text text' e
 
-guest_report : (guests : List Guest) (output : List PortWrite) (e : Option Ended) (level : ℕ) (halted : Bool) (r : Registers) → map (λ (g : Guest). length g.vcpus) guests ≡ 1 ∷ [] →
-    option_map (λ g. g.ended) (slice_get guests 0) ≡ Some e → option_map (λ v. level_in v.inside) (vcpu_of (slice_get guests 0) 0) ≡ Some level → option_map (λ v. v.halted) (vcpu_of (slice_get guests 0) 0) ≡ Some halted →
-    option_map (λ v. v.registers) (vcpu_of (slice_get guests 0) 0) ≡ Some r →
-    guest_line 0 e ++ ((vcpu_line 0 0 level halted r ++ []) ++ (out_lines 0 output ++ [])) ≡ guest_lines output 0 guests
-guest_report [] output e level halted r h s l t u = absurd (cc)
-guest_report (g ∷ []) output e level halted r h s l t u =
-    let same : e ≡ g.ended = cc in
-    let one : length g.vcpus ≡ 1 = cc in
-    ap (λ (o : Option Ended). guest_line 0 o ++ ((vcpu_line 0 0 level halted r ++ []) ++ (out_lines 0 output ++ []))) same
-    ∙ ap (λ lines. guest_line 0 g.ended ++ (lines ++ (out_lines 0 output ++ []))) (vcpu_report g.vcpus level halted r one l t u)
-guest_report (g ∷ k ∷ guests) output e level halted r h s l t u = absurd (cc)
-
-pub report_of_parts : (w : World) (bus : Bus) (e : Option Ended) (level : ℕ) (halted : Bool) (r : Registers) → IsSingle (world_shape w) →
-    option_map (λ g. g.ended) (guest_in w first_id.guest) ≡ Some e → option_map (λ v. level_in v.inside) (vcpu_in w first_id) ≡ Some level → option_map (λ v. v.halted) (vcpu_in w first_id) ≡ Some halted →
-    option_map (λ v. v.registers) (vcpu_in w first_id) ≡ Some r →
-    events_line w.event ++ guest_line 0 e ++ vcpu_line 0 0 level halted r ++ out_lines 0 bus.output ≡ report w bus
-unfolding report
-report_of_parts w bus e level halted r h s l t u =
-    grouped (events_line w.event) (guest_line 0 e) (vcpu_line 0 0 level halted r) (out_lines 0 bus.output)
-    ∙ ap (λ lines. events_line w.event ++ lines) (guest_report w.guests bus.output e level halted r (counts w h) s l t u)
+-- a guest that was ended is one of those from it on
+pub ended_here : (guests : List Guest) (n : ℕ) (e : Option Ended) → option_map (λ g. g.ended) (slice_get guests n) ≡ Some e → is_some e ≡ true → has_ended (drop n guests) ≡ true
+ended_here [] n e s t = absurd (cc)
+ended_here (g ∷ guests) zero e s t =
+    let same : g.ended ≡ e = cc in
+    rw (same, t) refl
+ended_here (g ∷ guests) (suc n) e s t = ended_here guests n e s t
 
 -- the report of a world beside a bus with this output
 pub report_of_bus : (w : World) (bus : Bus) (output : List PortWrite) (text : List ℕ) → output ≡ bus.output →
@@ -69,5 +67,4 @@ pub report_of_bus : (w : World) (bus : Bus) (output : List PortWrite) (text : Li
 unfolding outcome_after
 report_of_bus w bus output text e h = h bus.devices ∙ ap (λ (o : List PortWrite). report w (record { devices = bus.devices; output = o })) e
 
-pub pieces : (text a b c d k l m n : List ℕ) → text ≡ a ++ b ++ c ++ d → a ≡ k → b ≡ l → c ≡ m → d ≡ n → text ≡ k ++ l ++ m ++ n
-pieces text a b c d k l m n h p q r s = rw (← p, ← q, ← r, ← s) h
+pub ruleset reports = (guests_next, ended_here)

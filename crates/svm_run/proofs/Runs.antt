@@ -13,24 +13,24 @@ use Rattle.svm_run.specs.Outcome.{completed, outcome_after, led_until}
 use Rattle.svm_run.proofs.Events.{led, led_same}
 
 -- the status is that of where the run leads
-pub status-completed : (w v : World) (bus now : Bus) (image : Image) (script : Script) → w ≡ world_of image → v ≡ (plain_run w bus (events_of script)).world →
-    now ≡ (plain_run w bus (events_of script)).bus → (outcome_after [] (led v now)).status ≡ (completed bus (job image script)).status
+pub status-completed : (w v : World) (bus now : Bus) (image : Image) (script : Script) → w ≡ world_of image → v ≡ (plain_run w bus (events_of image.cpus script)).world →
+    now ≡ (plain_run w bus (events_of image.cpus script)).bus → (outcome_after [] (led v now)).status ≡ (completed bus (job image script)).status
 unfolding completed outcome_after
 status-completed w v bus now image script e f g =
-    ap (λ (l : Led). (outcome_after [] l).status) (led_same _ _ _ _ f g) ∙ ap (λ u. (outcome_after [] (plain_run u bus (events_of script))).status) e
+    ap (λ (l : Led). (outcome_after [] l).status) (led_same _ _ _ _ f g) ∙ ap (λ u. (outcome_after [] (plain_run u bus (events_of image.cpus script))).status) e
 
 starts-at-0 : (image : Image) → (world_of image).event ≡ 0
 unfolding world_of
 starts-at-0 image = refl
 
 -- a run has the script's events
-events-completed : (bus : Bus) (image : Image) (script : Script) → length (events_of script) ≡ script.events → (completed bus (job image script)).events ≡ script.events
+events-completed : (bus : Bus) (image : Image) (script : Script) → length (events_of image.cpus script) ≡ script.events → (completed bus (job image script)).events ≡ script.events
 unfolding completed outcome_after
 events-completed bus image script whole =
-    omega (arith, run-counted (world_of image) bus (events_of script), starts-at-0 image, whole)
+    omega (arith, run-counted (world_of image) bus (events_of image.cpus script), starts-at-0 image, whole)
 
 -- at most 896 reads for each event
-pub reads-completed : (old new : ℕ) (bus : Bus) (image : Image) (script : Script) → length (events_of script) ≡ script.events → new ≤ old + 896 * script.events →
+pub reads-completed : (old new : ℕ) (bus : Bus) (image : Image) (script : Script) → length (events_of image.cpus script) ≡ script.events → new ≤ old + 896 * script.events →
     new ≤ old + 896 * (completed bus (job image script)).events
 reads-completed old new bus image script whole h =
     let P : ℕ → Type 0 = λ count. new ≤ old + 896 * count in
@@ -43,16 +43,16 @@ unfolding led_until
 bus-none bus j = refl
 
 -- some first events from the image's world
-pub led-some : (w : World) (bus : Bus) (image : Image) (script : Script) (count : ℕ) → w ≡ world_of image → plain_run w bus (take count (events_of script)) ≡ led_until count bus (job image script)
+pub led-some : (w : World) (bus : Bus) (image : Image) (script : Script) (count : ℕ) → w ≡ world_of image → plain_run w bus (take count (events_of image.cpus script)) ≡ led_until count bus (job image script)
 unfolding led_until
-led-some w bus image script count e = ap (λ u. plain_run u bus (take count (events_of script))) e
+led-some w bus image script count e = ap (λ u. plain_run u bus (take count (events_of image.cpus script))) e
 
-pub bus-some : (w : World) (bus now : Bus) (image : Image) (script : Script) (count : ℕ) → w ≡ world_of image → now ≡ (plain_run w bus (take count (events_of script))).bus →
+pub bus-some : (w : World) (bus now : Bus) (image : Image) (script : Script) (count : ℕ) → w ≡ world_of image → now ≡ (plain_run w bus (take count (events_of image.cpus script))).bus →
     now ≡ (led_until count bus (job image script)).bus
 bus-some w bus now image script count e g = g ∙ ap (λ (l : Led). l.bus) (led-some w bus image script count e)
 
-pub bus-all : (w : World) (bus now : Bus) (image : Image) (script : Script) → w ≡ world_of image → now ≡ (plain_run w bus (events_of script)).bus →
-    now ≡ (led_until (length (events_of script)) bus (job image script)).bus
+pub bus-all : (w : World) (bus now : Bus) (image : Image) (script : Script) → w ≡ world_of image → now ≡ (plain_run w bus (events_of image.cpus script)).bus →
+    now ≡ (led_until (length (events_of image.cpus script)) bus (job image script)).bus
 bus-all w bus now image script e g =
-    bus-some w bus now image script (length (events_of script)) e
-    (g ∙ ap (λ (es : List Event). (plain_run w bus es).bus) (sym (take-length (events_of script))))
+    bus-some w bus now image script (length (events_of image.cpus script)) e
+    (g ∙ ap (λ (es : List Event). (plain_run w bus es).bus) (sym (take-length (events_of image.cpus script))))

@@ -61,13 +61,13 @@ HandsOverIt w bus (Some event) = (call : ℕ) × HandsOver call w bus event
 -- the event of this number, which was refused, hands something to the bus; any other way to end has no such event
 abbrev pub IsRefusedAt : EventsRun → ℕ → Bus → Job → Type 0
 IsRefusedAt NotAllEvents count bus job =
-    HandsOverIt (led_until count bus job).world (led_until count bus job).bus (slice_get (events_of job.script) count)
+    HandsOverIt (led_until count bus job).world (led_until count bus job).bus (slice_get (events_of job.image.cpus job.script) count)
 IsRefusedAt _ count bus job = Unit {0}
 
 -- The run of a job came so far: one number of events says where the bus is and what was printed.
 pub record EndsRun (m : Meaning) (line : List ℕ) (job : Job) (before after : Bus) (old new : Option (List ℕ)) (refused : Type 0) : Type 0 where
   pub count : ℕ
-  pub reached : IsReached m.events count (length (events_of job.script))
+  pub reached : IsReached m.events count (length (events_of job.image.cpus job.script))
   pub refused_at : IsRefusedAt m.events count before job
   pub bus : after ≡ (led_until count before job).bus
   pub printed : Receives m.printed (events_text (count - 1) before job) (text_until count before job) line old new refused

@@ -1,14 +1,13 @@
 -- What words over the told files name: a job, which is an image and a script for it, or a status that ends the program
 -- before any event. The order of refusals is the order of the cases.
-use Rattle.std.specs.Prelude.{ℕ, List, true, false, if◌then◌else◌, Option, Some, None, Result, Ok, Err}
+use Rattle.std.specs.Prelude.{ℕ, List, true, false, Option, Some, None, Result, Ok, Err}
 use Rattle.byte_shelf.specs.Shelf.{Files, file_of, whole_file}
 use Rattle.byte_shelf.specs.declared.answers.ReadAll.{ReadAll}
 use Rattle.byte_shelf.specs.declared.answers.ReadAll.TheVariants.{Missing as NoFile, Failed, TooLong as TooManyBytes, NoMemory as NoRoom}
 use Rattle.svm_model.specs.Formats.Image.{Image as ImageRecord, ImageFault}
 use Rattle.svm_model.specs.Formats.ImageBytes.{image_of, image_limit}
 use Rattle.svm_model.specs.Formats.Script.{Script as ScriptRecord, ScriptFault, script_of, script_limit}
-use Rattle.svm_model.specs.Machine.Shapes.{is_offered}
-use Rattle.svm_model.specs.declared.formats.ImageReason.TheVariants.{TooLong as ImageTooLong, Count}
+use Rattle.svm_model.specs.declared.formats.ImageReason.TheVariants.{TooLong as ImageTooLong}
 use Rattle.svm_model.specs.declared.formats.ScriptReason.TheVariants.{TooLong as ScriptTooLong}
 use Rattle.svm_run.specs.Words.{names_of}
 use Rattle.svm_run.specs.declared.status.Status.{Status}
@@ -24,9 +23,9 @@ pub record Job : Type 0 where
 abbrev pub job : ImageRecord → ScriptRecord → Job
 job image script = record { image = image; script = script }
 
--- the image that bytes say; one that the machine does not run yet is refused by its counts
+-- the image that bytes say
 abbrev pub image_said : Result ImageRecord ImageFault → Result ImageRecord Status
-image_said (Ok image) = if is_offered image then Ok image else Err (Input (Image 0 Count))
+image_said (Ok image) = Ok image
 image_said (Err fault) = Err (Input (Image fault.place fault.reason))
 
 abbrev pub image_from : Result (List ℕ) ReadAll → Result ImageRecord Status

@@ -62,7 +62,7 @@ outcome_after text led = record {
 unfoldable pub completed : Bus → Job → Outcome
 completed bus job =
     let w = world_of job.image in
-    let events = events_of job.script in
+    let events = events_of job.image.cpus job.script in
     outcome_after (texts_of w bus events) (plain_run w bus events)
 
 abbrev pub outcome_by : Bus → Result Job Status → Outcome
@@ -75,12 +75,12 @@ outcome_of bus files words = outcome_by bus (job_of files words)
 
 -- the world and the bus behind so many first events of a job
 unfoldable pub led_until : ℕ → Bus → Job → Led
-led_until count bus job = plain_run (world_of job.image) bus (take count (events_of job.script))
+led_until count bus job = plain_run (world_of job.image) bus (take count (events_of job.image.cpus job.script))
 
 -- what these events print
 unfoldable pub events_text : ℕ → Bus → Job → List ℕ
-events_text count bus job = texts_of (world_of job.image) bus (take count (events_of job.script))
+events_text count bus job = texts_of (world_of job.image) bus (take count (events_of job.image.cpus job.script))
 
 -- what a run prints until so many of its events are done: behind the last of all the report too
 unfoldable pub text_until : ℕ → Bus → Job → List ℕ
-text_until count bus job = if count == length (events_of job.script) then (completed bus job).text else events_text count bus job
+text_until count bus job = if count == length (events_of job.image.cpus job.script) then (completed bus job).text else events_text count bus job

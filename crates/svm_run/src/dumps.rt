@@ -1,5 +1,6 @@
 // What an event prints.
-ghost use Rattle.std.specs.Prelude.{◌≡◌, ◌+◌, ◌≤◌, true, drop, take, slice_get, IfOk};
+ghost use Rattle.std.specs.Prelude.{◌≡◌, ◌+◌, ◌≤◌, [], true, drop, take, slice_get, IfOk};
+ghost use Rattle.std.specs.Option.{MatchOption};
 ghost use Rattle.svm_model.specs.Machine.Shapes.{world_shape, IsNamed, IsShown};
 ghost use Rattle.plain_machine.specs.Reads.{is_run};
 ghost use Rattle.svm_run.specs.Outcome.{event_text, memory_of};
@@ -59,17 +60,17 @@ fn line_of_dump<L: Ledger>(
     dump_text(alloc, machine.event_number(), guest, address, &bytes)
 }
 
-/// What an event prints, which the machine has not done yet: a dump its line, and any other nothing. At most 256 reads are
-/// counted, and none where a vcpu may take a turn.
+/// What an event prints, which the machine has not done yet, where it prints: a dump its line. At most 256 reads are counted,
+/// and none where a vcpu may take a turn.
 #[tactic(auto, unfolding(crate::specs::Outcome::event_text))]
 pub fn text_of<L: Ledger>(
     alloc: Global,
     machine: &PlainMachine,
     event: Event,
     steps: &mut Steps<L>,
-) -> Result<Vec<u8>, NoMemory>
+) -> Result<Option<Vec<u8>>, NoMemory>
     requires { IsNamed (world_shape machine.now.world) event }
-    ensures text { IfOk result (λ text. text.items ≡ event_text machine.now.world event) }
+    ensures text { IfOk result (λ shown. MatchOption shown ([] ≡ event_text machine.now.world event) (λ text. text.items ≡ event_text machine.now.world event)) }
     ensures cost { steps.new ≤ steps.old + 256 }
     ensures still { is_run event ≡ true → steps.new ≡ steps.old }
     ensures later { steps.old ≤ steps.new }
@@ -79,12 +80,15 @@ pub fn text_of<L: Ledger>(
             guest,
             address,
             length,
-        } => line_of_dump(alloc, machine, guest, address, length, steps),
+        } => match line_of_dump(alloc, machine, guest, address, length, steps) {
+            Ok(line) => Ok(Some(line)),
+            Err(refusal) => Err(refusal),
+        },
         Event::Place { .. }
         | Event::Run { .. }
         | Event::Feed { .. }
         | Event::Irq { .. }
         | Event::Nmi { .. }
-        | Event::Unplug { .. } => Ok(Vec::new(alloc)),
+        | Event::Unplug { .. } => Ok(None),
     }
 }

@@ -1,47 +1,21 @@
 // Reads the image and the script.
-ghost use Rattle.std.specs.Prelude.{◌≡◌, ◌≤◌, ◌+◌, ℕ, true, length, IfOk, IfErr, IfSome};
+ghost use Rattle.std.specs.Prelude.{◌≡◌, ◌≤◌, ◌+◌, ℕ, length, IfOk, IfErr, IfSome};
 ghost use Rattle.svm_model.specs.Formats.ImageBytes.{image_of};
 ghost use Rattle.svm_model.specs.Formats.LawfulImages.{IsLawfulImage};
 ghost use Rattle.svm_model.specs.Formats.Script.{IsLawful, events_of, script_of};
-ghost use Rattle.svm_model.specs.Machine.Shapes.{image_shape, is_offered as offered_test, is_offered_guest, is_offered_vcpu};
+ghost use Rattle.svm_model.specs.Machine.Shapes.{image_shape};
 ghost use Rattle.svm_run.specs.Answers.{IsAsTold, IsOfReading};
 ghost use Rattle.svm_run.specs.Jobs.{image_in, image_said, script_in, script_said};
 
 use crate::status::{InputFault, OutsideFault, Status};
 use byte_shelf::{ReadAll, Shelf, read_all};
-use image_format::{GuestImage, Image, ImageReason, ImageRefusal, parse_image};
+use image_format::{Image, ImageReason, ImageRefusal, parse_image};
 use script_format::{Script, ScriptReason, ScriptRefusal, parse_script};
 use std::alloc::Global;
-use vm_names::Registers;
 
 const IMAGE_LIMIT: u32 = 67_108_864;
 
 const SCRIPT_LIMIT: u32 = 1_048_576;
-
-fn are_offered_vcpus(vcpus: &[Registers]) -> bool
-    ensures { result ≡ is_offered_vcpu vcpus.now }
-{
-    match vcpus {
-        [_] => true,
-        _ => false,
-    }
-}
-
-fn are_offered_guests(guests: &[GuestImage]) -> bool
-    ensures { result ≡ is_offered_guest guests.now }
-{
-    match guests {
-        [guest] => are_offered_vcpus(&guest.vcpus),
-        _ => false,
-    }
-}
-
-/// Whether the machine can run the image: one processor, and one guest with one vcpu.
-fn is_offered(image: &Image) -> bool
-    ensures { result ≡ offered_test image.now }
-{
-    image.cpus == 1 && are_offered_guests(&image.guests)
-}
 
 fn image_fault(place: u32, reason: ImageReason) -> Status
     ensures { result ≡ Status.Input (InputFault.Image place reason) }
@@ -49,22 +23,17 @@ fn image_fault(place: u32, reason: ImageReason) -> Status
     Status::Input(InputFault::Image { place, reason })
 }
 
-/// The image that the bytes are, where the machine can run it.
+/// The image that the bytes are.
 pub fn accept_image(alloc: Global, bytes: &[u8]) -> Result<Image, Status>
     ensures exact { IsAsTold (λ image. image) result (image_said (image_of bytes.now)) }
     ensures lawful { IfOk result IsLawfulImage }
-    ensures offered { IfOk result (λ image. offered_test image ≡ true) }
     ensures cause { (before now : ℕ) → IfErr result (λ status. IsOfReading status before now) }
 {
-    let image = match parse_image(alloc, bytes) {
-        Ok(image) => image,
-        Err(ImageRefusal::Bad { place, reason }) => return Err(image_fault(place, reason)),
-        Err(ImageRefusal::NoMemory) => return Err(Status::NoMemory),
-    };
-    if !is_offered(&image) {
-        return Err(image_fault(0, ImageReason::Count));
+    match parse_image(alloc, bytes) {
+        Ok(image) => Ok(image),
+        Err(ImageRefusal::Bad { place, reason }) => Err(image_fault(place, reason)),
+        Err(ImageRefusal::NoMemory) => Err(Status::NoMemory),
     }
-    Ok(image)
 }
 
 /// Reads an image from a shelf.
@@ -72,7 +41,6 @@ pub fn accept_image(alloc: Global, bytes: &[u8]) -> Result<Image, Status>
 pub fn open_image<H: Shelf>(alloc: Global, shelf: &mut H, name: &str) -> Result<Image, Status>
     ensures exact { IfSome (H.files shelf.old) (λ _. IsAsTold (λ image. image) result (image_in (H.files shelf.old) name.now)) }
     ensures lawful { IfOk result IsLawfulImage }
-    ensures offered { IfOk result (λ image. offered_test image ≡ true) }
     ensures cause { IfErr result (λ status. IsOfReading status (H.faults shelf.old) (H.faults shelf.new)) }
     ensures files { H.files shelf.new ≡ H.files shelf.old }
     ensures later { H.faults shelf.old ≤ H.faults shelf.new }
@@ -99,7 +67,7 @@ fn accept_script(alloc: Global, bytes: &[u8], image: &Image) -> Result<Script, S
     requires { IsLawfulImage image.now }
     ensures exact { IsAsTold (λ script. script) result (script_said (script_of bytes.now image.now)) }
     ensures lawful { IfOk result (IsLawful (image_shape image.now)) }
-    ensures count { IfOk result (λ script. length (events_of script) ≡ script.events) }
+    ensures count { IfOk result (λ script. length (events_of image.now.cpus script) ≡ script.events) }
     ensures cause { (before now : ℕ) → IfErr result (λ status. IsOfReading status before now) }
 {
     match parse_script(alloc, bytes, image) {
@@ -120,7 +88,7 @@ pub fn open_script<H: Shelf>(
     requires { IsLawfulImage image.now }
     ensures exact { IfSome (H.files shelf.old) (λ _. IsAsTold (λ script. script) result (script_in image.now (H.files shelf.old) name.now)) }
     ensures lawful { IfOk result (IsLawful (image_shape image.now)) }
-    ensures count { IfOk result (λ script. length (events_of script) ≡ script.events) }
+    ensures count { IfOk result (λ script. length (events_of image.now.cpus script) ≡ script.events) }
     ensures cause { IfErr result (λ status. IsOfReading status (H.faults shelf.old) (H.faults shelf.new)) }
     ensures files { H.files shelf.new ≡ H.files shelf.old }
     ensures later { H.faults shelf.old ≤ H.faults shelf.new }

@@ -108,4 +108,6 @@ fn run<L: Ledger, M: Ledger>(
 }
 
 #[cfg(test)]
+mod guest_tests;
+#[cfg(test)]
 mod tests;

@@ -57,12 +57,15 @@ fn run_event<B: Ports, K: Sink, L: Ledger>(
     ensures later_faults { K.faults sink.old ≤ K.faults sink.new }
     ensures later_refusals { K.refusals sink.old ≤ K.refusals sink.new }
 {
-    let Ok(text) = text_of(alloc, machine, event, steps) else {
+    let Ok(shown) = text_of(alloc, machine, event, steps) else {
         return Err(RunFault::NoMemory);
     };
     if let Err(end) = machine.event(event, bus, steps) {
         return Err(RunFault::Bus(end));
     }
+    let Some(text) = shown else {
+        return Ok(());
+    };
     match write_all(sink, &text) {
         Ok(()) => Ok(()),
         Err(refusal) => Err(RunFault::Sink(refusal)),
@@ -83,13 +86,13 @@ pub fn run_events<B: Ports, K: Sink, L: Ledger>(
 ) -> Result<(), RunFault>
     requires lawful { IsLawful (world_shape machine.old.world) script.now }
     requires cpus { (world_shape machine.old.world).cpus ≡ cpus }
-    requires count { length (events_of script.now) ≡ script.now.events }
+    requires count { length (events_of cpus script.now) ≡ script.now.events }
     requires first { machine.old.world.event ≡ 0 }
     requires going { machine.old.stopped ≡ false }
-    ensures world { OnOk result (machine.new.world ≡ (plain_run machine.old.world (B.bus bus.old) (events_of script.now)).world) }
-    ensures bus { OnOk result (B.bus bus.new ≡ (plain_run machine.old.world (B.bus bus.old) (events_of script.now)).bus) }
-    ensures printed { OnOk result (K.written sink.new ≡ appended (K.written sink.old) (texts_of machine.old.world (B.bus bus.old) (events_of script.now))) }
-    ensures ended { IfErr result (λ fault. EndsEvents fault machine.old.world (events_of script.now) (B.bus bus.old) (B.bus bus.new) (K.written sink.old) (K.written sink.new)) }
+    ensures world { OnOk result (machine.new.world ≡ (plain_run machine.old.world (B.bus bus.old) (events_of cpus script.now)).world) }
+    ensures bus { OnOk result (B.bus bus.new ≡ (plain_run machine.old.world (B.bus bus.old) (events_of cpus script.now)).bus) }
+    ensures printed { OnOk result (K.written sink.new ≡ appended (K.written sink.old) (texts_of machine.old.world (B.bus bus.old) (events_of cpus script.now))) }
+    ensures ended { IfErr result (λ fault. EndsEvents fault machine.old.world (events_of cpus script.now) (B.bus bus.old) (B.bus bus.new) (K.written sink.old) (K.written sink.new)) }
     ensures cause { IfErr result (λ fault. IsOfCounts fault (B.faults bus.old) (B.faults bus.new) (K.faults sink.old) (K.faults sink.new)) }
     ensures shape { world_shape machine.new.world ≡ world_shape machine.old.world }
     ensures number { OnOk result (machine.new.world.event ≡ script.now.events) }

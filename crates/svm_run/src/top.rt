@@ -1,9 +1,9 @@
 // The top call: what the program does with its words.
-ghost use Rattle.std.specs.Prelude.{◌≡◌, ◌⊎◌, ◌≤◌, ◌+◌, ◌*◌, true, length, map, [], List, Option, ℕ, None, IfSome};
+ghost use Rattle.std.specs.Prelude.{◌≡◌, ◌⊎◌, ◌≤◌, ◌+◌, ◌*◌, length, map, [], List, Option, ℕ, None, IfSome};
 ghost use Rattle.fault_counts.specs.Causes.{Rose};
 ghost use Rattle.svm_model.specs.Formats.LawfulImages.{IsLawfulImage};
 ghost use Rattle.svm_model.specs.Formats.Script.{IsLawful, events_of};
-ghost use Rattle.svm_model.specs.Machine.Shapes.{image_shape, world_shape, IsSingle, is_offered as offered_test};
+ghost use Rattle.svm_model.specs.Machine.Shapes.{image_shape, world_shape};
 ghost use Rattle.svm_run.specs.Answers.{Ends, EndsRun, HasCause, IsBeforeRun, IsDetermined, IsReached, IsRefusedAt, Receives, ReceivesLine};
 ghost use Rattle.svm_run.specs.Jobs.{job, job_of, Job};
 ghost use Rattle.svm_run.specs.Outcome.{outcome_of, outcome_after, completed};
@@ -44,10 +44,17 @@ fn refuse<K: Sink>(sink: &mut K, status: Status) -> Status
     }
 }
 
-/// Prints the report of a machine that has run all events.
+/// Prints the report of an image's machine that has run all events.
 #[tactic(auto, using(crate::proofs::Received::received), unfolding(crate::specs::Outcome::outcome_after))]
-fn finish<B: Ports, K: Sink>(alloc: Global, machine: &PlainMachine, bus: &B, sink: &mut K) -> Status
-    requires { IsSingle (world_shape machine.now.world) }
+fn finish<B: Ports, K: Sink>(
+    alloc: Global,
+    machine: &PlainMachine,
+    image: &Image,
+    bus: &B,
+    sink: &mut K,
+) -> Status
+    requires lawful { IsLawfulImage image.now }
+    requires shape { world_shape machine.now.world ≡ image_shape image.now }
     ensures exact { IsDetermined result → result ≡ (outcome_after [] (record { world = machine.now.world; bus = B.bus bus.now })).status }
     ensures reached { (count : ℕ) → IsReached (meaning_of result).events count count }
     ensures not_refused { (count : ℕ) (before : BusRecord) (run : Job) → IsRefusedAt (meaning_of result).events count before run }
@@ -56,11 +63,11 @@ fn finish<B: Ports, K: Sink>(alloc: Global, machine: &PlainMachine, bus: &B, sin
         (Rose (K.faults sink.old) (K.faults sink.new) ⊎ Rose (K.refusals sink.old) (K.refusals sink.new)) }
     ensures cause { (s t : ℕ) (d e : List (Option ℕ)) → HasCause (meaning_of result).blame s t (K.faults sink.old) (K.faults sink.new) d e }
 {
-    let Ok(text) = report(alloc, machine, bus.writes()) else {
+    let Ok(text) = report(alloc, machine, image, bus.writes()) else {
         return refuse(sink, Status::NoMemory);
     };
     match write_all(sink, &text) {
-        Ok(()) if has_ended(machine) => Status::LeftProfile,
+        Ok(()) if has_ended(machine, image) => Status::LeftProfile,
         Ok(()) => Status::Done,
         Err(SinkRefusal::Failed) => Status::OutsideFault(OutsideFault::Write),
         Err(SinkRefusal::NoMemory) => refuse(sink, Status::NoMemory),
@@ -93,9 +100,8 @@ fn run_job<B: Ports, K: Sink, L: Ledger>(
     steps: &mut Steps<L>,
 ) -> Status
     requires lawful { IsLawfulImage image.now }
-    requires offered { offered_test image.now ≡ true }
     requires script { IsLawful (image_shape image.now) script.now }
-    requires count { length (events_of script.now) ≡ script.now.events }
+    requires count { length (events_of image.now.cpus script.now) ≡ script.now.events }
     ensures exact { IsDetermined result → result ≡ (completed (B.bus bus.old) (job image.now script.now)).status }
     ensures run { IsBeforeRun result → ⊥ }
     ensures ends { EndsRun (meaning_of result) (status_line result) (job image.now script.now) (B.bus bus.old) (B.bus bus.new) (K.written sink.old) (K.written sink.new)
@@ -108,7 +114,7 @@ fn run_job<B: Ports, K: Sink, L: Ledger>(
         return refuse(sink, Status::NoMemory);
     };
     match run_events(alloc, &mut machine, script, image.cpus, bus, sink, steps) {
-        Ok(()) => finish(alloc, &machine, bus, sink),
+        Ok(()) => finish(alloc, &machine, image, bus, sink),
         Err(fault) => refuse(sink, status_of(fault)),
     }
 }

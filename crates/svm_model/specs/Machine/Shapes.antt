@@ -1,14 +1,13 @@
 -- What events name: processors, vcpus and bytes of memory that are there.
-use Rattle.std.specs.Prelude.{◌≡◌, ℕ, ◌+◌, ◌*◌, ◌%◌, ◌≤◌, ◌&&◌, ◌==◌, List, [], ◌∷◌, Bool, true, false, Option, Some, length, map, slice_get, ◌<◌}
+use Rattle.std.specs.Prelude.{◌≡◌, ℕ, ◌+◌, ◌*◌, ◌%◌, ◌≤◌, List, Option, Some, length, map, slice_get, ◌<◌}
 use Rattle.std.specs.List.{All}
 use Rattle.svm_model.specs.Machine.Bus.{device_count}
 use Rattle.svm_model.specs.Machine.Guest.{Guest}
-use Rattle.svm_model.specs.Formats.Image.{Image, ImageGuest}
+use Rattle.svm_model.specs.Formats.Image.{Image}
 use Rattle.svm_model.specs.declared.names.Event.{Event}
 use Rattle.svm_model.specs.declared.names.Event.TheVariants.{Place, Run, Feed, Irq, Nmi, Unplug, Dump}
 use Rattle.svm_model.specs.declared.names.GuestId.{GuestId}
 use Rattle.svm_model.specs.declared.names.VcpuId.{VcpuId}
-use Rattle.svm_model.specs.declared.register_file.Registers.{Registers}
 use Rattle.svm_model.specs.Machine.World.{World}
 
 -- the number of processors; of each guest that of its vcpus, and that of the bytes of its memory
@@ -69,22 +68,3 @@ pub record IsWellFormed (w : World) : Type 0 where
   pub there : (cpu : ℕ) (id : VcpuId) → slice_get w.placing cpu ≡ Some (Some id) → IsVcpu (world_shape w) id
   pub one_to_one : IsOneToOne w.placing
   pub pages : All (λ (guest : Guest). length guest.memory % 4096 ≡ 0) w.guests
-
--- What the machine runs: one processor, and one guest with one vcpu, whatever its memory.
-pub record IsSingle (shape : Shape) : Type 0 where
-  pub cpus : shape.cpus ≡ 1
-  pub vcpus : shape.vcpus ≡ 1 ∷ []
-
--- the image has one processor, and one guest with one vcpu
-abbrev pub is_offered_vcpu : List Registers → Bool
-is_offered_vcpu [] = false
-is_offered_vcpu (registers ∷ []) = true
-is_offered_vcpu (a ∷ b ∷ vcpus) = false
-
-abbrev pub is_offered_guest : List ImageGuest → Bool
-is_offered_guest [] = false
-is_offered_guest (guest ∷ []) = is_offered_vcpu guest.vcpus
-is_offered_guest (a ∷ b ∷ guests) = false
-
-abbrev pub is_offered : Image → Bool
-is_offered image = (image.cpus == 1) && is_offered_guest image.guests

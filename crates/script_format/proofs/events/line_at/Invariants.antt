@@ -1,14 +1,15 @@
-use Rattle.std.proofs.Common.{◌≤◌, ◌<◌, ◌-◌, length, take}
-use Rattle.script_format.proofs.Order.{count}
+use Rattle.std.proofs.Common.{◌≤◌, ◌<◌, ◌-◌, length}
+use Rattle.std.specs.List.{slice_get}
+use Rattle.std.specs.Option.{IfSome}
 use Rattle.script_format.proofs.events.line_at.Given as goal
 
--- the event is of the lines from low on that are below high
+-- line low begins at the number or before it, and line high, where there is one, behind it
 abbrev pub invariant-loop-low : goal.invariant-loop-low
 invariant-loop-low l = record {
   some : l.low < l.high;
   within : l.high ≤ length l.lines;
-  from : count (take l.low l.lines) ≤ l.number;
-  to : l.number < count (take l.high l.lines);
+  from : IfSome (slice_get l.lines l.low) (λ line. line.first ≤ l.number);
+  to : IfSome (slice_get l.lines l.high) (λ line. l.number < line.first);
 }
 
 abbrev pub decreases-loop-low : goal.decreases-loop-low

@@ -1,4 +1,4 @@
-use Rattle.std.proofs.Common.{◌∙◌, ◌+◌, ◌≤◌, Some, Ok, ap, arith}
+use Rattle.std.proofs.Common.{◌∙◌, ◌+◌, Some, Ok, ap, arith}
 use Rattle.std.proofs.lemmas.Result.{err_from_is_err_and}
 use Rattle.svm_model.specs.Machine.Shapes.{image_shape}
 use Rattle.script_format.proofs.Lawful.{few_behind}
@@ -19,20 +19,20 @@ loop-line-preserved-in_default c = record {
   few = c.loop-line.invariant.few;
 }
 
-pub overflow_add-events : goal.overflow_add-events
-overflow_add-events c =
-    let few : c.loop-line.events + c.in-Some.said.times ≤ 1048576 =
-    few_behind (image_shape c.args.image.now) (c.loop-line.number + 1) c.loop-line.events _ (Some c.in-Some.said) c.loop-line.invariant.few (c.in_ok-said.ensures ∙ ap (λ said. Ok said) c.in-Some.is) in
-    omega arith
+pub events_behind-events-requires : goal.events_behind-events-requires
+events_behind-events-requires c = record {
+  few = few_behind (image_shape c.args.image.now) (c.loop-line.number + 1) c.loop-line.events _ (Some c.in-Some.said) c.requires.lawful.some_cpus c.loop-line.invariant.few (c.in_ok-said.ensures ∙ ap (λ said. Ok said) c.in-Some.is);
+}
 
 pub loop-line-preserved : goal.loop-line-preserved
 loop-line-preserved c =
     let shape = image_shape c.args.image.now in
+    let said = c.in_ok-said.ensures ∙ ap (λ said. Ok said) c.in-Some.is in
     record {
-      so_far = rw c.in_ok-push.ensures.items (goes_on shape c.loop-line.found.items (c.loop-line.number + 1) c.loop-line.events c.loop-line.line-index c.args.lines.now _ (Some c.in-Some.said) _ c.loop-line-test.true
-          (c.in_ok-said.ensures ∙ ap (λ said. Ok said) c.in-Some.is) c.loop-line.invariant.so_far);
+      so_far = rw (c.in_ok-push.ensures.items, c.events_behind-events.ensures) (goes_on shape c.loop-line.found.items (c.loop-line.number + 1) c.loop-line.events c.loop-line.line-index c.args.lines.now _ (Some c.in-Some.said) _ c.loop-line-test.true
+          said c.loop-line.invariant.so_far);
       last = omega arith;
-      few = few_behind shape (c.loop-line.number + 1) c.loop-line.events _ (Some c.in-Some.said) c.loop-line.invariant.few (c.in_ok-said.ensures ∙ ap (λ said. Ok said) c.in-Some.is);
+      few = rw c.events_behind-events.ensures (few_behind shape (c.loop-line.number + 1) c.loop-line.events _ (Some c.in-Some.said) c.requires.lawful.some_cpus c.loop-line.invariant.few said);
     }
 
 pub returns : goal.returns

@@ -13,9 +13,9 @@ loop-number-preserved g c =
     let there = sym c.event_at.ensures.event ∙ c.in-Some.is in
     record {
       so_far =
-          led_next _ _ (events_of c.args.script.now) c.loop-number.number c.in-Some.event _ before.so_far there
+          led_next _ _ (events_of c.args.cpus c.args.script.now) c.loop-number.number c.in-Some.event _ before.so_far there
           ∙ led_same _ _ _ _ (sym came.world) (sym came.bus);
-      printed = received_next _ _ (events_of c.args.script.now) c.loop-number.number c.in-Some.event _ _ _ _ before.so_far there before.printed came.printed;
+      printed = received_next _ _ (events_of c.args.cpus c.args.script.now) c.loop-number.number c.in-Some.event _ _ _ _ before.so_far there before.printed came.printed;
       shape = came.shape ∙ before.shape;
       going = came.going;
       done = came.number ∙ ap (λ (n : ℕ). n + 1) before.done;
@@ -29,4 +29,4 @@ loop-number-preserved g c =
 pub returns-in-Err-clause-ended : goal.returns-in-Err-clause-ended
 returns-in-Err-clause-ended g c =
     let before = c.loop-number.invariant in
-    ends-here c.in-Err.fault _ _ _ _ _ (events_of c.args.script.now) c.loop-number.number c.in-Some.event _ _ _ before.so_far (sym c.event_at.ensures.event ∙ c.in-Some.is) before.printed c.in-Err.ensures.ended
+    ends-here c.in-Err.fault _ _ _ _ _ (events_of c.args.cpus c.args.script.now) c.loop-number.number c.in-Some.event _ _ _ before.so_far (sym c.event_at.ensures.event ∙ c.in-Some.is) before.printed c.in-Err.ensures.ended

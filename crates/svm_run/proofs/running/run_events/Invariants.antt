@@ -12,12 +12,12 @@ abbrev pub invariant-loop-number : goal.invariant-loop-number
 invariant-loop-number g l = record {
   so_far : plain_run l.initial.machine.world
       (g.B.Ports.bus l.initial.bus)
-      (take l.number (events_of l.script)) ≡ record {
+      (take l.number (events_of l.cpus l.script)) ≡ record {
         world = l.machine.world;
         bus = g.B.Ports.bus l.bus;
       };
   printed : g.K.Sink.written l.sink ≡ appended (g.K.Sink.written l.initial.sink)
-      (texts_of l.initial.machine.world (g.B.Ports.bus l.initial.bus) (take l.number (events_of l.script)));
+      (texts_of l.initial.machine.world (g.B.Ports.bus l.initial.bus) (take l.number (events_of l.cpus l.script)));
   shape : world_shape l.machine.world ≡ world_shape l.initial.machine.world;
   going : l.machine.stopped ≡ false;
   done : l.machine.world.event ≡ l.number;

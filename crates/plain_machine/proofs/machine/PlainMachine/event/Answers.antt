@@ -5,7 +5,9 @@ use Rattle.svm_model.specs.Machine.Runs.{end_of_guest, reached_of}
 use Rattle.svm_model.specs.Machine.Shapes.{Shape, IsNamed, world_shape}
 use Rattle.svm_model.specs.Machine.World.{World}
 use Rattle.svm_model.proofs.EndLemmas.{event-ends_stay, reached-ends_stay}
-use Rattle.plain_machine.specs.Single.{Machine}
+use Rattle.plain_machine.specs.Machines.{Machine}
+use Rattle.plain_machine.specs.Others.{OthersStay}
+use Rattle.plain_machine.proofs.OtherLemmas.{event-others, reached-others}
 use Rattle.plain_machine.proofs.machine.PlainMachine.event.Goals as goal
 
 pub happen-requires-clause-named : goal.happen-requires-clause-named
@@ -21,6 +23,12 @@ returns-in-Ok-clause-ends_stay g c = λ guest e s.
     subst P (sym (c.in-Ok.ensures.world ∙ ap (λ (m : Machine). (event_of m.world bus c.args.event).world) c.ring_timers.ensures.timers))
     (event-ends_stay c.args.self.now.world bus c.args.event guest e s)
 
+pub returns-in-Ok-clause-others : goal.returns-in-Ok-clause-others
+returns-in-Ok-clause-others g c =
+    let bus = g.B.Ports.bus c.args.bus.now in
+    subst (OthersStay c.args.self.now.world c.args.event) (sym (c.in-Ok.ensures.world ∙ ap (λ (m : Machine). (event_of m.world bus c.args.event).world) c.ring_timers.ensures.timers))
+    (event-others c.args.self.now.world bus c.args.event)
+
 pub returns-in-Ok-clause-shape : goal.returns-in-Ok-clause-shape
 returns-in-Ok-clause-shape g c = c.happen.ensures.shape ∙ c.ring_timers.ensures.shape
 
@@ -35,6 +43,14 @@ returns-in-Err-clause-ends_stay g c = λ guest e s.
     subst P
     (sym (ap (λ (m : Machine). m.world) c.self.view_is ∙ (c.in-Err.ensures.reached ∙ ap (λ (m : Machine). reached_of call m.world bus c.args.event) c.ring_timers.ensures.timers)))
     (reached-ends_stay call c.args.self.now.world bus c.args.event guest e s)
+
+pub returns-in-Err-clause-others : goal.returns-in-Err-clause-others
+returns-in-Err-clause-others g c =
+    let bus = g.B.Ports.bus c.args.bus.now in
+    let call = c.in-Err.cut.call in
+    subst (OthersStay c.args.self.now.world c.args.event)
+    (sym (ap (λ (m : Machine). m.world) c.self.view_is ∙ (c.in-Err.ensures.reached ∙ ap (λ (m : Machine). reached_of call m.world bus c.args.event) c.ring_timers.ensures.timers)))
+    (reached-others call c.args.self.now.world bus c.args.event)
 
 pub returns-in-Err-clause-shape : goal.returns-in-Err-clause-shape
 returns-in-Err-clause-shape g c = ap (λ (m : Machine). world_shape m.world) c.self.view_is ∙ (c.happen.ensures.shape ∙ c.ring_timers.ensures.shape)

@@ -1,0 +1,204 @@
+-- The turn of a vcpu of a guest, from what the executor's turn gives.
+use Rattle.std.proofs.Common.{◌≡◌, ◌∙◌, ◌<◌, ℕ, true, false, is_some, IfSome, IfOk, IfErr, OnOk, OnErr, Result, Ok, Err, List, [], ◌∷◌, zero, suc, Option, Some, None, ap, sym, refl, subst, map, length, slice_get, slice_set, slice_index_or}
+use Rattle.std.specs.List.{All}
+use Rattle.std.proofs.lemmas.List.Elements.{All-head, All-tail}
+use Rattle.std.proofs.lemmas.List.{length-set}
+use Rattle.std.proofs.lemmas.Option.{slice_get-get_or}
+use Rattle.svm_model.specs.Machine.Apic.{Apic}
+use Rattle.svm_model.specs.Machine.Bus.{Bus}
+use Rattle.svm_model.specs.Machine.Guest.{Guest}
+use Rattle.svm_model.specs.Machine.PlainTurn.{turned}
+use Rattle.svm_model.specs.Machine.Turns.{board_of, end_by}
+use Rattle.svm_model.specs.Turn.Course.{Board, Turned}
+use Rattle.svm_model.specs.declared.names.Ended.{Ended}
+use Rattle.svm_model.specs.declared.names.RunEnd.{RunEnd}
+use Rattle.svm_model.specs.declared.ports.PortWrite.{PortWrite}
+use Rattle.svm_model.specs.declared.turns.Stepped.{Stepped}
+use Rattle.svm_model.specs.declared.vcpus.Inside.{Inside}
+use Rattle.svm_model.specs.declared.vcpus.Vcpu.{Vcpu}
+use Rattle.turn_exec.specs.Plays.{board_with, refused_at, IsBlamed}
+use Rattle.svm_model.specs.Turn.Course.{Told}
+use Rattle.port_bus.specs.Causes.{Blames}
+use Rattle.plain_machine.specs.GuestTurns.{GuestTurn, guest_turn, facts_in, outcome_of, turn_done_in, with_live_in, with_vcpu_in, with_apic_in, IsOutIn}
+use Rattle.plain_machine.specs.declared.turns.Cut.{Cut}
+use Rattle.plain_machine.specs.Slots.{Kept, layout}
+use Rattle.plain_machine.specs.Turning.{Gives, GrantsLast}
+use Rattle.plain_machine.specs.declared.turns.Moment.{Moment}
+
+-- the turn of a vcpu that is there, in a guest that was not ended
+pub live : (refused : Option ℕ) (m : Moment) (bus : Bus) (guest : Guest) (vcpu : Vcpu) (apic : Apic) → guest.ended ≡ None → slice_get guest.vcpus m.vcpu.index ≡ Some vcpu → slice_get guest.apics m.vcpu.index ≡ Some apic →
+    guest_turn refused m bus guest ≡ turn_done_in m guest (turned refused (facts_in m vcpu apic) (board_of bus apic) guest.memory vcpu)
+unfolding guest_turn
+live refused m bus guest vcpu apic e v a =
+    ap (λ (o : Option Ended). with_live_in refused m bus guest o) e
+    ∙ ap (λ (o : Option Vcpu). with_vcpu_in refused m bus guest o) v
+    ∙ ap (λ (o : Option Apic). with_apic_in refused m bus guest vcpu o) a
+
+-- one of an ended guest changes nothing
+ended_by : (refused : Option ℕ) (m : Moment) (bus : Bus) (guest : Guest) (o : Option Ended) → true ≡ is_some o →
+    with_live_in refused m bus guest o ≡ record { guest = guest; bus = bus; ended = None; calls = 0; denied = None }
+ended_by refused m bus guest None e = absurd (cc)
+ended_by refused m bus guest (Some end) e = refl
+
+pub ended : (refused : Option ℕ) (m : Moment) (bus : Bus) (guest : Guest) → true ≡ is_some guest.ended →
+    guest_turn refused m bus guest ≡ record { guest = guest; bus = bus; ended = None; calls = 0; denied = None }
+unfolding guest_turn
+ended refused m bus guest e = ended_by refused m bus guest guest.ended e
+
+pub not_ended : (o : Option Ended) → false ≡ is_some o → o ≡ None
+not_ended None e = refl
+not_ended (Some end) e = absurd (cc)
+
+made : List ℕ → Board → Vcpu → Stepped → List Told → Turned
+made memory board vcpu stepped told = record { memory = memory; board = board; vcpu = vcpu; stepped = stepped; told = told }
+
+-- the guest behind the turn of its vcpu
+abbrev pub after_turn : Guest → ℕ → Option Ended → List ℕ → Vcpu → Apic → Guest
+after_turn guest index ended memory vcpu apic = record {
+  memory = memory;
+  ended = ended;
+  vcpus = slice_set guest.vcpus index vcpu;
+  apics = slice_set guest.apics index apic;
+}
+
+-- how the turn of a guest's vcpu comes out
+pub record Comes (m : Moment) (old new : Bus) (faults later : List (Option ℕ)) (guest after : Guest) (result : Result (Option Ended) Cut) : Type 0 where
+  pub guest_is : OnOk result (after ≡ (guest_turn None m old guest).guest)
+  pub bus_is : OnOk result (new ≡ (guest_turn None m old guest).bus)
+  pub ended_is : IfOk result (λ ended. ended ≡ (guest_turn None m old guest).ended)
+  pub reached : IfErr result (λ cut. after ≡ (guest_turn (Some cut.call) m old guest).guest)
+  pub out : IfErr result (λ cut. IsOutIn cut.call m old guest)
+  pub kept : OnErr result (new ≡ old)
+  pub blamed : IfErr result (λ cut. Blames cut.end faults later)
+
+-- the guest's turn is what the executor's turn of its vcpu gives
+gives_guest : (refused : Option ℕ) (m : Moment) (bus new : Bus) (guest : Guest) (vcpu after : Vcpu) (apic gone : Apic) (memory : List ℕ) (calls : ℕ) (end : Option RunEnd) (denied : Option PortWrite) (stepped : Stepped) →
+    guest.ended ≡ None → slice_get guest.vcpus m.vcpu.index ≡ Some vcpu → slice_get guest.apics m.vcpu.index ≡ Some apic →
+    Gives (turned refused (facts_in m vcpu apic) (board_of bus apic) guest.memory vcpu) memory (board_with new gone None calls end denied) after stepped →
+    guest_turn refused m bus guest ≡ record {
+      guest = after_turn guest m.vcpu.index (end_by m.vcpu.index m.event stepped) memory after gone;
+      bus = new;
+      ended = end_by m.vcpu.index m.event stepped;
+      calls = calls;
+      denied = denied;
+    }
+gives_guest refused m bus new guest vcpu after apic gone memory calls end denied stepped e v a g =
+    let t : Turned = turned refused (facts_in m vcpu apic) (board_of bus apic) guest.memory vcpu in
+    live refused m bus guest vcpu apic e v a
+    ∙ ap (λ (x : List ℕ). turn_done_in m guest (record { memory = x; board = t.board; vcpu = t.vcpu; stepped = t.stepped; told = t.told })) g.memory_is
+    ∙ ap (λ (x : Board). turn_done_in m guest (record { memory = memory; board = x; vcpu = t.vcpu; stepped = t.stepped; told = t.told })) g.board_is
+    ∙ ap (λ (x : Vcpu). turn_done_in m guest (record { memory = memory; board = board_with new gone None calls end denied; vcpu = x; stepped = t.stepped; told = t.told })) g.vcpu_is
+    ∙ ap (λ (x : Stepped). turn_done_in m guest (record { memory = memory; board = board_with new gone None calls end denied; vcpu = after; stepped = x; told = t.told })) g.stepped_is
+
+-- a turn that was cut off was denied a write
+was_out : (m : Moment) (bus : Bus) (guest : Guest) (calls : ℕ) (denied : Option PortWrite) (vcpu : Vcpu) (apic : Apic) →
+    guest.ended ≡ None → slice_get guest.vcpus m.vcpu.index ≡ Some vcpu → slice_get guest.apics m.vcpu.index ≡ Some apic →
+    true ≡ is_some denied → (guest_turn (Some calls) m bus guest).denied ≡ denied →
+    IfSome denied (λ write. GrantsLast calls bus write (turned None (facts_in m vcpu apic) (board_of bus apic) guest.memory vcpu)) → IsOutIn calls m bus guest
+was_out m bus guest calls None vcpu apic e v a some told last = absurd (cc)
+was_out m bus guest calls (Some write) vcpu apic e v a some told last =
+    let whole = live None m bus guest vcpu apic e v a in
+    record {
+      write = write;
+      denied = told;
+      granted = ap (λ (t : GuestTurn). t.bus) whole ∙ last.granted;
+      last = ap (λ (t : GuestTurn). t.calls) whole ∙ last.last;
+    }
+
+was_kept : (bus new : Bus) (denied : Option PortWrite) → true ≡ is_some denied → IfSome denied (λ write. new ≡ bus) → new ≡ bus
+was_kept bus new None some kept = absurd (cc)
+was_kept bus new (Some write) some kept = kept
+
+pub came : (m : Moment) (bus new : Bus) (faults later : List (Option ℕ)) (guest : Guest) (vcpu after : Vcpu) (apic gone : Apic) (memory : List ℕ) (calls : ℕ) (end : Option RunEnd) (denied : Option PortWrite) (stepped : Stepped) →
+    guest.ended ≡ None → slice_get guest.vcpus m.vcpu.index ≡ Some vcpu → slice_get guest.apics m.vcpu.index ≡ Some apic →
+    Gives (turned (refused_at end calls) (facts_in m vcpu apic) (board_of bus apic) guest.memory vcpu) memory (board_with new gone None calls end denied) after stepped →
+    is_some end ≡ is_some denied → IfSome denied (λ write. new ≡ bus) →
+    IfSome denied (λ write. GrantsLast calls bus write (turned None (facts_in m vcpu apic) (board_of bus apic) guest.memory vcpu)) →
+    IsBlamed end faults later →
+    Comes m bus new faults later guest (after_turn guest m.vcpu.index (end_by m.vcpu.index m.event stepped) memory after gone) (outcome_of (end_by m.vcpu.index m.event stepped) end calls)
+came m bus new faults later guest vcpu after apic gone memory calls None denied stepped e v a g out kept last blamed =
+    let is = gives_guest None m bus new guest vcpu after apic gone memory calls None denied stepped e v a g in
+    record {
+      guest_is = sym (ap (λ (t : GuestTurn). t.guest) is);
+      bus_is = sym (ap (λ (t : GuestTurn). t.bus) is);
+      ended_is = sym (ap (λ (t : GuestTurn). t.ended) is);
+      reached = tt;
+      out = tt;
+      kept = tt;
+      blamed = tt;
+    }
+came m bus new faults later guest vcpu after apic gone memory calls (Some end) denied stepped e v a g out kept last blamed =
+    let is = gives_guest (Some calls) m bus new guest vcpu after apic gone memory calls (Some end) denied stepped e v a g in
+    record {
+      guest_is = tt;
+      bus_is = tt;
+      ended_is = tt;
+      reached = sym (ap (λ (t : GuestTurn). t.guest) is);
+      out = was_out m bus guest calls denied vcpu apic e v a out (ap (λ (t : GuestTurn). t.denied) is) last;
+      kept = was_kept bus new denied out kept;
+      blamed = blamed;
+    }
+
+-- The vcpu and its APIC at an index.
+
+pub at_index : {A : Type 0} (xs : List A) (i j : ℕ) (x : A) → x ≡ slice_index_or xs i x → i ≡ j → i < length xs → slice_get xs j ≡ Some x
+at_index xs i j x e is h = ap (slice_get xs) (sym is) ∙ slice_get-get_or xs i x h ∙ ap (λ y. Some y) (sym e)
+
+pub came_at : (m : Moment) (i : ℕ) (bus new : Bus) (faults later : List (Option ℕ)) (guest : Guest) (vcpu after : Vcpu) (apic gone : Apic) (memory : List ℕ) (calls : ℕ) (end : Option RunEnd) (denied : Option PortWrite) (stepped : Stepped) →
+    i ≡ m.vcpu.index → guest.ended ≡ None → vcpu ≡ slice_index_or guest.vcpus i vcpu → i < length guest.vcpus → apic ≡ slice_index_or guest.apics i apic → i < length guest.apics →
+    Gives (turned (refused_at end calls) (facts_in m vcpu apic) (board_of bus apic) guest.memory vcpu) memory (board_with new gone None calls end denied) after stepped →
+    is_some end ≡ is_some denied → IfSome denied (λ write. new ≡ bus) →
+    IfSome denied (λ write. GrantsLast calls bus write (turned None (facts_in m vcpu apic) (board_of bus apic) guest.memory vcpu)) →
+    IsBlamed end faults later →
+    Comes m bus new faults later guest (after_turn guest i (end_by m.vcpu.index m.event stepped) memory after gone) (outcome_of (end_by m.vcpu.index m.event stepped) end calls)
+came_at m i bus new faults later guest vcpu after apic gone memory calls end denied stepped is e v in_vcpus a in_apics g out kept last blamed =
+    subst (λ (n : ℕ). Comes m bus new faults later guest (after_turn guest n (end_by m.vcpu.index m.event stepped) memory after gone) (outcome_of (end_by m.vcpu.index m.event stepped) end calls)) (sym is)
+    (came m bus new faults later guest vcpu after apic gone memory calls end denied stepped e
+    (at_index guest.vcpus i m.vcpu.index vcpu v is in_vcpus) (at_index guest.apics i m.vcpu.index apic a is in_apics) g out kept last blamed)
+
+-- no vcpu of a slot runs a guest of its own
+pub outside-of : (vcpus : List Vcpu) (i : ℕ) (vcpu : Vcpu) → All (λ (o : Option Inside). o ≡ None) (map (λ (v : Vcpu). v.inside) vcpus) → slice_get vcpus i ≡ Some vcpu → vcpu.inside ≡ None
+outside-of [] i vcpu all e = absurd (cc)
+outside-of (v ∷ vcpus) zero vcpu all e =
+    let same : v ≡ vcpu = cc in
+    sym (ap (λ (x : Vcpu). x.inside) same) ∙ All-head (λ (o : Option Inside). o ≡ None) v.inside (map (λ (x : Vcpu). x.inside) vcpus) all
+outside-of (v ∷ vcpus) (suc i) vcpu all e = outside-of vcpus i vcpu (All-tail (λ (o : Option Inside). o ≡ None) v.inside (map (λ (x : Vcpu). x.inside) vcpus) all) e
+
+insides-set : (vcpus : List Vcpu) (i : ℕ) (vcpu after : Vcpu) → slice_get vcpus i ≡ Some vcpu → after.inside ≡ vcpu.inside → map (λ (v : Vcpu). v.inside) (slice_set vcpus i after) ≡ map (λ (v : Vcpu). v.inside) vcpus
+insides-set [] i vcpu after e same = refl
+insides-set (v ∷ vcpus) zero vcpu after e same =
+    let one : v ≡ vcpu = cc in
+    ap (λ (o : Option Inside). o ∷ map (λ (x : Vcpu). x.inside) vcpus) (same ∙ sym (ap (λ (x : Vcpu). x.inside) one))
+insides-set (v ∷ vcpus) (suc i) vcpu after e same = ap (λ (os : List (Option Inside)). v.inside ∷ os) (insides-set vcpus i vcpu after e same)
+
+-- a turn leaves the guest's layout
+pub layout-after : (slot : Kept) (end : Option Ended) (i : ℕ) (vcpu after : Vcpu) (gone : Apic) → slice_get slot.vcpus i ≡ Some vcpu → after.inside ≡ vcpu.inside →
+    layout (record { window = slot.window; ended = end; vcpus = slice_set slot.vcpus i after; apics = slice_set slot.apics i gone }) ≡ layout slot
+layout-after slot end i vcpu after gone e same =
+    ap (λ (os : List (Option Inside)). record { window = slot.window; insides = os; apics = length (slice_set slot.apics i gone) }) (insides-set slot.vcpus i vcpu after e same)
+    ∙ ap (λ (n : ℕ). record { window = slot.window; insides = map (λ (v : Vcpu). v.inside) slot.vcpus; apics = n }) (length-set slot.apics i gone)
+
+-- The turn among all guests.
+
+pub at_slot : (slots : List Kept) (i k : ℕ) (d : Kept) (P : Kept → Type 0) → i ≡ k → i < length slots → P (slice_index_or slots i d) → IfSome (slice_get slots k) P
+at_slot slots i k d P is h p =
+    let there : slice_get slots k ≡ Some (slice_index_or slots i d) = ap (slice_get slots) (sym is) ∙ slice_get-get_or slots i d h in
+    subst (λ (o : Option Kept). IfSome o P) (sym there) p
+
+pub on_ok : {T E : Type 0} (r : Result T E) (A B : Type 0) → (A → B) → OnOk r A → OnOk r B
+on_ok (Ok x) A B f a = f a
+on_ok (Err e) A B f a = tt
+
+pub if_ok : {T E : Type 0} (r : Result T E) (A B : T → Type 0) → ((x : T) → A x → B x) → IfOk r A → IfOk r B
+if_ok (Ok x) A B f a = f x a
+if_ok (Err e) A B f a = tt
+
+pub if_err : {T E : Type 0} (r : Result T E) (A B : E → Type 0) → ((e : E) → A e → B e) → IfErr r A → IfErr r B
+if_err (Ok x) A B f a = tt
+if_err (Err e) A B f a = f e a
+
+-- a changed vcpu that keeps its inside leaves the layout
+pub layout-vcpu : (slot : Kept) (end : Option Ended) (i : ℕ) (vcpu after : Vcpu) → slice_get slot.vcpus i ≡ Some vcpu → after.inside ≡ vcpu.inside →
+    layout (record { window = slot.window; ended = end; vcpus = slice_set slot.vcpus i after; apics = slot.apics }) ≡ layout slot
+layout-vcpu slot end i vcpu after e same =
+    ap (λ (os : List (Option Inside)). record { window = slot.window; insides = os; apics = length slot.apics }) (insides-set slot.vcpus i vcpu after e same)

@@ -1,0 +1,98 @@
+-- The turn of a guest's vcpu is what the executor's turn gives.
+use Rattle.std.proofs.Common.{◌≡◌, ◌∙◌, ◌<◌, Some, None, length, slice_get, ap, sym, subst, refl, arith, IfSome, is_some, true}
+use Rattle.std.proofs.lemmas.List.{length-map}
+use Rattle.svm_model.specs.Memory.Bytes.{guest_of}
+use Rattle.svm_model.specs.Machine.PlainTurn.{turned}
+use Rattle.svm_model.specs.Machine.Turns.{board_of}
+use Rattle.svm_model.specs.declared.turns.Facts.{Facts}
+use Rattle.svm_model.specs.declared.vcpus.Vcpu.{Vcpu}
+use Rattle.turn_exec.specs.Plays.{board_with, refused_at}
+use Rattle.plain_machine.specs.Turning.{Gives, GrantsLast}
+use Rattle.plain_machine.specs.GuestTurns.{GuestTurn}
+use Rattle.plain_machine.specs.Slots.{Kept, guest_at, layout}
+use Rattle.plain_machine.proofs.GuestTurnLemmas.{Comes, after_turn, at_index, came_at, ended, layout-after, not_ended, outside-of}
+use Rattle.plain_machine.proofs.turns.turn_guest.Given.{Over}
+use Rattle.plain_machine.proofs.turns.turn_guest.Goals as goal
+
+-- a guest that was ended
+still : (g : Over) (c : goal.Then-is_some g) → true ≡ is_some c.args.slot.now.ended
+still g c = c.if-is_some.ensures ∙ ap (λ (s : Kept). is_some s.ended) c.slot.view_is
+
+pub returns-then-is_some-clause-guest : goal.returns-then-is_some-clause-guest
+returns-then-is_some-clause-guest g c =
+    sym (ap (λ (t : GuestTurn). t.guest) (ended None c.args.moment.now (g.B.Ports.bus c.args.bus.now) (guest_at c.args.memory.now.bytes c.args.slot.now) (still g c)))
+
+pub returns-then-is_some-clause-bus : goal.returns-then-is_some-clause-bus
+returns-then-is_some-clause-bus g c =
+    sym (ap (λ (t : GuestTurn). t.bus) (ended None c.args.moment.now (g.B.Ports.bus c.args.bus.now) (guest_at c.args.memory.now.bytes c.args.slot.now) (still g c)))
+
+pub returns-then-is_some-clause-ended : goal.returns-then-is_some-clause-ended
+returns-then-is_some-clause-ended g c =
+    sym (ap (λ (t : GuestTurn). t.ended) (ended None c.args.moment.now (g.B.Ports.bus c.args.bus.now) (guest_at c.args.memory.now.bytes c.args.slot.now) (still g c)))
+
+pub take_turn-turn-requires-clause-outside : goal.take_turn-turn-requires-clause-outside
+take_turn-turn-requires-clause-outside g c =
+    let there : c.from-index.result < length c.args.slot.now.vcpus = omega (arith, c.requires.there, c.from-index.ensures) in
+    let here : c.from-index.result < length c.slot.inside.vcpus.items = subst (λ (s : Kept). c.from-index.result < length s.vcpus) (sym c.slot.view_is) there in
+    let vcpu : slice_get c.slot.inside.vcpus.items c.from-index.result ≡ Some c.index_mut-vcpu.result.now
+    = at_index c.slot.inside.vcpus.items c.from-index.result c.from-index.result c.index_mut-vcpu.result.now c.index_mut-vcpu.ensures.value refl here in
+    outside-of c.args.slot.now.vcpus c.from-index.result c.index_mut-vcpu.result.now c.requires.slot.outside
+    (ap (λ (s : Kept). slice_get s.vcpus c.from-index.result) (sym c.slot.view_is) ∙ vcpu)
+
+abbrev inside : (g : Over) → goal.After-outcome_of g → Kept
+inside g c = record { window = c.slot.inside.window; ended = c.slot.inside.ended; vcpus = c.slot.inside.vcpus.items; apics = c.slot.inside.apics.items }
+
+pub note_end-requires : goal.note_end-requires
+note_end-requires g c = not_ended c.slot.inside.ended c.if-is_some.ensures
+
+comes : (g : Over) (c : goal.After-outcome_of g) → Comes c.args.moment.now (g.B.Ports.bus c.args.bus.now) (g.B.Ports.bus c.take_turn-turn.new.bus) (g.B.Ports.faults c.args.bus.now) (g.B.Ports.faults c.take_turn-turn.new.bus)
+    (guest_at c.args.memory.now.bytes c.args.slot.now)
+    (after_turn (guest_at c.args.memory.now.bytes (inside g c)) c.from-index.result c.note_end.new.noted (guest_of c.slot.inside.window c.take_turn-turn.new.memory.bytes) c.take_turn-turn.new.vcpu c.take_turn-turn.new.apic)
+    c.outcome_of.result
+comes g c =
+    let m = c.args.moment.now in
+    let i = c.from-index.result in
+    let bytes = c.args.memory.now.bytes in
+    let bus = g.B.Ports.bus c.args.bus.now in
+    let new = g.B.Ports.bus c.take_turn-turn.new.bus in
+    let faults = g.B.Ports.faults c.args.bus.now in
+    let later = g.B.Ports.faults c.take_turn-turn.new.bus in
+    let turn = c.take_turn-turn.result in
+    let memory = guest_of c.slot.inside.window c.take_turn-turn.new.memory.bytes in
+    let in_vcpus : i < length c.slot.inside.vcpus.items
+    = subst (λ (s : Kept). i < length s.vcpus) (sym c.slot.view_is) (omega (arith, c.requires.there, c.from-index.ensures)) in
+    let in_apics : i < length c.slot.inside.apics.items
+    = subst (λ (s : Kept). i < length s.apics) (sym c.slot.view_is) (omega (arith, c.requires.there, c.from-index.ensures, c.requires.slot.apics, length-map c.args.slot.now.vcpus (λ (v : Vcpu). v.inside))) in
+    let came = came_at m i bus new faults later (guest_at bytes (inside g c)) c.index_mut-vcpu.result.now c.take_turn-turn.new.vcpu c.index_mut-apic.result.now c.take_turn-turn.new.apic memory turn.calls turn.refused turn.denied turn.stepped
+    c.from-index.ensures (not_ended c.slot.inside.ended c.if-is_some.ensures) c.index_mut-vcpu.ensures.value in_vcpus c.index_mut-apic.ensures.value in_apics
+    (subst (λ (f : Facts). Gives (turned (refused_at turn.refused turn.calls) f (board_of bus c.index_mut-apic.result.now) (guest_of c.slot.inside.window bytes) c.index_mut-vcpu.result.now) memory (board_with new c.take_turn-turn.new.apic None turn.calls turn.refused turn.denied) c.take_turn-turn.new.vcpu turn.stepped) c.facts_of-facts.ensures c.take_turn-turn.ensures.turned)
+    c.take_turn-turn.ensures.out c.take_turn-turn.ensures.kept
+    (subst (λ (f : Facts). IfSome turn.denied (λ write. GrantsLast turn.calls bus write (turned None f (board_of bus c.index_mut-apic.result.now) (guest_of c.slot.inside.window bytes) c.index_mut-vcpu.result.now))) c.facts_of-facts.ensures c.take_turn-turn.ensures.last)
+    c.take_turn-turn.ensures.blamed in
+    subst (λ (s : Kept). Comes m bus new faults later (guest_at bytes s) (after_turn (guest_at bytes (inside g c)) i c.note_end.new.noted memory c.take_turn-turn.new.vcpu c.take_turn-turn.new.apic) c.outcome_of.result) c.slot.view_is
+    (rw (c.outcome_of.ensures, c.note_end.ensures, c.end_by-ended.ensures) came)
+
+pub returns-clause-guest : goal.returns-clause-guest
+returns-clause-guest g c = (comes g c).guest_is
+
+pub returns-clause-bus : goal.returns-clause-bus
+returns-clause-bus g c = (comes g c).bus_is
+
+pub returns-clause-ended : goal.returns-clause-ended
+returns-clause-ended g c = (comes g c).ended_is
+
+pub returns-clause-reached : goal.returns-clause-reached
+returns-clause-reached g c = (comes g c).reached
+
+pub returns-clause-out : goal.returns-clause-out
+returns-clause-out g c = (comes g c).out
+
+pub returns-clause-layout : goal.returns-clause-layout
+returns-clause-layout g c =
+    let i = c.from-index.result in
+    let in_vcpus : i < length c.slot.inside.vcpus.items
+    = subst (λ (s : Kept). i < length s.vcpus) (sym c.slot.view_is) (omega (arith, c.requires.there, c.from-index.ensures)) in
+    let vcpu = at_index c.slot.inside.vcpus.items i i c.index_mut-vcpu.result.now c.index_mut-vcpu.ensures.value refl in_vcpus in
+    layout-after (inside g c) c.note_end.new.noted i c.index_mut-vcpu.result.now c.take_turn-turn.new.vcpu c.take_turn-turn.new.apic vcpu
+    (c.take_turn-turn.ensures.outside ∙ sym (outside-of c.args.slot.now.vcpus i c.index_mut-vcpu.result.now c.requires.slot.outside (ap (λ (s : Kept). slice_get s.vcpus i) (sym c.slot.view_is) ∙ vcpu)))
+    ∙ ap layout c.slot.view_is

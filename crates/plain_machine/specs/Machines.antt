@@ -1,0 +1,24 @@
+-- The machine in clauses, and its guests and vcpus by their names.
+use Rattle.std.specs.Prelude.{ℕ, Bool, Option, Some, None, slice_get}
+use Rattle.svm_model.specs.Machine.Guest.{Guest}
+use Rattle.svm_model.specs.Machine.World.{World}
+use Rattle.svm_model.specs.declared.names.GuestId.{GuestId}
+use Rattle.svm_model.specs.declared.names.VcpuId.{VcpuId}
+use Rattle.svm_model.specs.declared.vcpus.Vcpu.{Vcpu}
+
+-- the machine: its world, and whether it is stopped, since the bus refused what an event handed it
+pub record Machine : Type 0 where
+  pub world : World
+  pub stopped : Bool
+
+-- the guest of that name
+abbrev pub guest_in : World → GuestId → Option Guest
+guest_in w id = slice_get w.guests id.0
+
+abbrev pub vcpu_of : Option Guest → ℕ → Option Vcpu
+vcpu_of None index = None
+vcpu_of (Some guest) index = slice_get guest.vcpus index
+
+-- the vcpu of that name
+abbrev pub vcpu_in : World → VcpuId → Option Vcpu
+vcpu_in w id = vcpu_of (guest_in w id.guest) id.index
