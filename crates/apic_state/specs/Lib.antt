@@ -1,0 +1,4 @@
+pub mod Answers
+pub mod Masks
+pub mod Parts
+pub mod Places
