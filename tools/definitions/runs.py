@@ -1,8 +1,7 @@
 """Runs an image and a script by the definitions of a model, and prints what they say.
 
 The definitions read the image and the script, make of each event what it does, and say the report. What they do not say yet
-stands here: the blocks of a trace, and, for as long as they refuse them, images of version 2, which have a word of
-features in place of the header's zero."""
+stands here: the blocks of a trace."""
 
 from itertools import compress, count
 from operator import is_not
@@ -11,7 +10,6 @@ from paged_bytes import PAGE, PagedBytes
 from translation import Model, Program
 
 DEVICES = 16
-FLUSH_BY_ASID = 1  # the bit of the features that an image of version 2 may set
 
 
 class Refused(Exception):
@@ -57,28 +55,9 @@ def variant_name(value):
 
 def image_said(definitions, data):
     found = definitions.image_of(PagedBytes.of(data))
-    early = early_image(data) if is_refused_version(found) else None
-    if early is not None:
-        found = definitions.image_of(PagedBytes.of(early))
     if variant_name(found) == "Err":
         raise Refused(f"refused image place={found[1]['place']} reason={variant_name(found[1]['reason'])}\n")
-    if early is None:
-        return found[1]
-    features = int.from_bytes(data[12:16], "little")
-    if features not in (0, FLUSH_BY_ASID):
-        raise Left("its image has features that are not defined yet")
-    return {**found[1], "version": 2, "features": features}
-
-
-def is_refused_version(found):
-    return variant_name(found) == "Err" and variant_name(found[1]["reason"]) == "Version"
-
-
-def early_image(data):
-    """An image of version 2 as one of version 1, without its features; None of another version."""
-    if data[8:10] != b"\x02\x00" or len(data) < 16:
-        return None
-    return data[:8] + b"\x01\x00" + data[10:12] + bytes(4) + data[16:]
+    return found[1]
 
 
 def script_said(definitions, data, image):

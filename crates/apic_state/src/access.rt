@@ -2,12 +2,12 @@
 ghost use Rattle.std.specs.Prelude.{◌≡◌, ◌<◌, bit_and, slice_set};
 ghost use Rattle.svm_model.specs.Machine.ApicRegisters.{command_of as ipi_of, is_mode as mode_test, lvt_mask, place_of as place_at, read_at, value_at as value_in, with_command, with_dfr, write_at, written_at};
 ghost use Rattle.apic_state.specs.Answers.{after, answer_of};
-ghost use Rattle.apic_state.specs.Places.{IsNumber, register_of};
+ghost use Rattle.apic_state.specs.Places.{IsNumber};
 
-use crate::registers::{NamedPlace, RegisterName, place_of};
+use crate::registers::place_of;
 use crate::state::Apic;
 use crate::vectors::vectors_at;
-use svm_model::Ipi;
+use svm_model::{ApicPlace, ApicRegister, Ipi};
 
 /// What a write of a register led to (volume 2, 'Local APIC Registers', 'Interrupt Command Register'): it was stored, or
 /// stored and an interprocessor interrupt is to be sent, or it is not offered and nothing has changed.
@@ -35,27 +35,27 @@ fn entry_mask(number: u8) -> u32
 impl Apic {
     /// What a register reads at an event.
     #[tactic(auto, unfolding(svm_model::specs::Machine::ApicRegisters::value_at))]
-    fn value_at(&self, name: RegisterName, number: u8, event: u32) -> u32
-        requires { IsNumber name number }
-        ensures { result ≡ value_in (register_of name) number self.now event }
+    fn value_at(&self, register: ApicRegister, number: u8, event: u32) -> u32
+        requires { IsNumber register number }
+        ensures { result ≡ value_in register number self.now event }
     {
-        match name {
-            RegisterName::Id => u32::from(self.id) << 24,
-            RegisterName::Version => 0x5_0014,
-            RegisterName::Tpr => u32::from(self.tpr),
-            RegisterName::Ppr => u32::from(self.processor_priority()),
-            RegisterName::Ldr => u32::from(self.ldr) << 24,
-            RegisterName::Dfr => (u32::from(self.dfr) << 28) + 0xfff_ffff,
-            RegisterName::Svr => self.svr,
-            RegisterName::Isr => vectors_at(&self.isr, number),
-            RegisterName::Irr => vectors_at(&self.irr, number),
-            RegisterName::IcrLow => self.icr_low,
-            RegisterName::IcrHigh => self.icr_high,
-            RegisterName::Lvt => self.lvt[usize::from(number)],
-            RegisterName::InitialCount => self.count,
-            RegisterName::CurrentCount => self.current_count(event),
-            RegisterName::DivideBy => self.divide,
-            RegisterName::Eoi | RegisterName::Tmr | RegisterName::Esr => 0,
+        match register {
+            ApicRegister::Id => u32::from(self.id) << 24,
+            ApicRegister::Version => 0x5_0014,
+            ApicRegister::Tpr => u32::from(self.tpr),
+            ApicRegister::Ppr => u32::from(self.processor_priority()),
+            ApicRegister::Ldr => u32::from(self.ldr) << 24,
+            ApicRegister::Dfr => (u32::from(self.dfr) << 28) + 0xfff_ffff,
+            ApicRegister::Svr => self.svr,
+            ApicRegister::Isr => vectors_at(&self.isr, number),
+            ApicRegister::Irr => vectors_at(&self.irr, number),
+            ApicRegister::IcrLow => self.icr_low,
+            ApicRegister::IcrHigh => self.icr_high,
+            ApicRegister::Lvt => self.lvt[usize::from(number)],
+            ApicRegister::InitialCount => self.count,
+            ApicRegister::CurrentCount => self.current_count(event),
+            ApicRegister::DivideBy => self.divide,
+            ApicRegister::Eoi | ApicRegister::Tmr | ApicRegister::Esr => 0,
         }
     }
 
@@ -65,7 +65,7 @@ impl Apic {
         ensures { result ≡ read_at (place_at offset) self.now event }
     {
         let place = place_of(offset)?;
-        Some(self.value_at(place.name, place.number, event))
+        Some(self.value_at(place.register, place.number, event))
     }
 
     /// The interrupt that a write of ICR's low half sends.
@@ -118,25 +118,25 @@ impl Apic {
 
     /// A write of a register at an event.
     #[tactic(auto, unfolding(svm_model::specs::Machine::ApicRegisters::written_at))]
-    fn store(&mut self, place: NamedPlace, value: u32, event: u32) -> Written
-        requires { IsNumber place.name place.number }
-        ensures answer { result ≡ answer_of (written_at (register_of place.name) place.number self.old value event) }
-        ensures after { self.new ≡ after self.old (written_at (register_of place.name) place.number self.old value event) }
+    fn store(&mut self, place: ApicPlace, value: u32, event: u32) -> Written
+        requires { IsNumber place.register place.number }
+        ensures answer { result ≡ answer_of (written_at place.register place.number self.old value event) }
+        ensures after { self.new ≡ after self.old (written_at place.register place.number self.old value event) }
     {
-        match place.name {
-            RegisterName::Tpr => self.tpr = (value % 256) as u8,
-            RegisterName::Eoi => self.end_interrupt(),
-            RegisterName::Ldr => self.ldr = (value >> 24) as u8,
-            RegisterName::Dfr => return self.set_model((value >> 28) as u8),
-            RegisterName::Svr => self.svr = value % 512,
-            RegisterName::IcrLow => return self.send(value),
-            RegisterName::IcrHigh => self.icr_high = value & 0xff00_0000,
-            RegisterName::Lvt => self.set_entry(place.number, value),
-            RegisterName::InitialCount => {
+        match place.register {
+            ApicRegister::Tpr => self.tpr = (value % 256) as u8,
+            ApicRegister::Eoi => self.end_interrupt(),
+            ApicRegister::Ldr => self.ldr = (value >> 24) as u8,
+            ApicRegister::Dfr => return self.set_model((value >> 28) as u8),
+            ApicRegister::Svr => self.svr = value % 512,
+            ApicRegister::IcrLow => return self.send(value),
+            ApicRegister::IcrHigh => self.icr_high = value & 0xff00_0000,
+            ApicRegister::Lvt => self.set_entry(place.number, value),
+            ApicRegister::InitialCount => {
                 self.count = value;
                 self.start = event;
             }
-            RegisterName::DivideBy => {
+            ApicRegister::DivideBy => {
                 self.divide = value & 0xb;
                 self.start = event;
             }

@@ -1,20 +1,20 @@
 -- Whatever bytes are an image, it is lawful.
-use Rattle.std.proofs.Common.{◌≡◌, ℕ, zero, suc, ◌+◌, ◌*◌, ◌≤◌, Bool, true, false, cond, ltb, leb, ◌&&◌, List, length, Result, Ok, Err, refl, ap, arith}
+use Rattle.std.proofs.Common.{◌≡◌, ◌==◌, ℕ, zero, suc, ◌+◌, ◌*◌, ◌≤◌, Bool, true, false, cond, ltb, leb, ◌&&◌, List, length, Result, Ok, Err, refl, ap, arith}
 use Rattle.std.specs.Prelude.{IfOk, IsTrue}
 use Rattle.std.specs.Int.{Width, w8, w16, w32, w64}
 use Rattle.std.specs.List.{AllByRecursion}
-use Rattle.std.proofs.lemmas.Bool.{ltb-false, leb-true, and_parts}
+use Rattle.std.proofs.lemmas.Bool.{eqb-false, ltb-false, leb-true, and_parts}
 use Rattle.std.proofs.lemmas.List.{length-take}
 use Rattle.std.proofs.lemmas.List.Elements.{All-from_recursion}
 use Rattle.svm_model.specs.Formats.Image.{Image, ImageGuest, ImageFault}
 use Rattle.svm_model.specs.Formats.ImageBytes.{segment_in, many_in, guest_in, image_in, image_limit, image_of, IsLawfulVcpu}
-use Rattle.svm_model.specs.Formats.ImageFields.{Source, ◌>>=◌, bytes_in, number_in, judged, bounded, zero_in, zeros_in, magic_in, root_in, linear_in, flags_in, is_root, are_flags}
+use Rattle.svm_model.specs.Formats.ImageFields.{Source, ◌>>=◌, bytes_in, number_in, judged, bounded, zero_in, zeros_in, magic_in, features_in, root_in, linear_in, flags_in, is_root, are_flags}
 use Rattle.svm_model.specs.Formats.ImageVcpus.{table_register, start_tr, vcpu_in}
 use Rattle.svm_model.specs.Formats.LawfulImages.{IsLawfulSegment, IsLawfulGuest, IsLawfulImage}
 use Rattle.svm_model.specs.Memory.RegisterFile.{is_canonical}
 use Rattle.svm_model.specs.declared.register_file.Registers.{Registers}
 use Rattle.svm_model.specs.declared.formats.ImageReason.{ImageReason}
-use Rattle.svm_model.specs.declared.formats.ImageReason.TheVariants.{Version, Count, Register, Range, Trailing}
+use Rattle.svm_model.specs.declared.formats.ImageReason.TheVariants.{Version, Count, Zero, Feature, Register, Range, Trailing}
 use Rattle.image_format.specs.declared.refusal.ImageRefusal.{ImageRefusal}
 use Rattle.image_format.specs.Reading.{GivesImage}
 
@@ -137,19 +137,38 @@ guest_is s =
       segments = All-from_recursion _ segments.0 f.1;
     })))))))
 
+-- the features of a version, chosen by a test whether it is the first
+abbrev AreFeatures : ℕ → ℕ → Type 0
+AreFeatures version features = (features ≤ 1) × (version ≡ 1 → features ≡ 0)
+
+by_version : (first : Bool) (version : ℕ) (s : Source) → (version == 1) ≡ first → IfOk (cond first (zero_in w32 s) (bounded w32 0 1 Feature s)) (λ n. AreFeatures version n.0)
+by_version true version s e =
+    skip (λ n. AreFeatures version n.0) (number_in w32 s) _ (λ n.
+    passes s Zero (leb 0 n.0 && leb n.0 0) n (λ n. AreFeatures version n.0) (λ good.
+    let within = both 0 n.0 n.0 0 good in (omega (arith, within.1), λ _. omega (arith, within.1))))
+by_version false version s e =
+    skip (λ n. AreFeatures version n.0) (number_in w32 s) _ (λ n.
+    passes s Feature (leb 0 n.0 && leb n.0 1) n (λ n. AreFeatures version n.0) (λ good.
+    ((both 0 n.0 n.0 1 good).1, λ one. absurd (eqb-false version 1 e one))))
+
+features_are : (version : ℕ) (s : Source) → IfOk (features_in version s) (λ n. AreFeatures version n.0)
+features_are version s = by_version (version == 1) version s refl
+
 image_is : (s : Source) → IfOk (image_in s) IsLawfulImage
 unfolding image_in
 image_is s =
     skip IsLawfulImage (magic_in s) _ (λ magic.
-    then (λ version. IsWithin 1 1 version.0) IsLawfulImage (bounded w16 1 1 Version magic.1) _ (bounds w16 1 1 Version magic.1) (λ version a.
+    then (λ version. IsWithin 1 2 version.0) IsLawfulImage (bounded w16 1 2 Version magic.1) _ (bounds w16 1 2 Version magic.1) (λ version a.
     then (λ count. IsWithin 1 4 count.0) IsLawfulImage (bounded w8 1 4 Count version.1) _ (bounds w8 1 4 Count version.1) (λ count b.
     then (λ cpus. IsWithin 1 8 cpus.0) IsLawfulImage (bounded w8 1 8 Count count.1) _ (bounds w8 1 8 Count count.1) (λ cpus d.
-    skip IsLawfulImage (zero_in w32 cpus.1) _ (λ pad.
-    then (λ guests. (length guests.0 ≡ count.0) × AllByRecursion IsLawfulGuest guests.0) IsLawfulImage (many_in guest_in count.0 pad.1) _ (all_many IsLawfulGuest guest_in guest_is count.0 pad.1) (λ guests e.
+    then (λ features. AreFeatures version.0 features.0) IsLawfulImage (features_in version.0 cpus.1) _ (features_are version.0 cpus.1) (λ features f.
+    then (λ guests. (length guests.0 ≡ count.0) × AllByRecursion IsLawfulGuest guests.0) IsLawfulImage (many_in guest_in count.0 features.1) _ (all_many IsLawfulGuest guest_in guest_is count.0 features.1) (λ guests e.
     passes guests.1 Trailing _ _ IsLawfulImage (λ _.
     record {
-      version = omega arith;
-      features = refl;
+      first_version = a.0;
+      last_version = a.1;
+      features = f.0;
+      none_in_first = f.1;
       some_cpus = d.0;
       most_cpus = d.1;
       some_guests = rw e.0 b.0;

@@ -2,7 +2,7 @@
 
 ghost use Rattle.std.specs.Prelude.{◌≡◌};
 ghost use Rattle.std.specs.Int.{w8, w16, w32, w64};
-ghost use Rattle.svm_model.specs.Formats.ImageFields.{bytes_in, number_in, bounded, zero_in, zeros_in, magic_in, root_in, linear_in, flags_in};
+ghost use Rattle.svm_model.specs.Formats.ImageFields.{bytes_in, number_in, bounded, zero_in, zeros_in, magic_in, features_in, root_in, linear_in, flags_in};
 ghost use Rattle.image_format.specs.Reading.{Gives, left};
 
 use crate::refusal::{ImageRefusal, refused_at};
@@ -121,6 +121,17 @@ pub fn zero_u32(source: Source) -> Result<(u32, Source), ImageRefusal>
     ensures { Gives (λ x. (x.0, left x.1)) result (zero_in w32 (left source.entry)) }
 {
     bounded_u32(0, 0, ImageReason::Zero, source)
+}
+
+/// The word of features: version 1 has none, version 2 offers bit 0, FlushByAsid.
+pub fn features_in(version: u16, source: Source) -> Result<(u32, Source), ImageRefusal>
+    ensures { Gives (λ x. (x.0, left x.1)) result (features_in version (left source.entry)) }
+{
+    if version == 1 {
+        zero_u32(source)
+    } else {
+        bounded_u32(0, 1, ImageReason::Feature, source)
+    }
 }
 
 /// Three bytes that have to be zero. They are refused at the first of them.

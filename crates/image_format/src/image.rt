@@ -36,7 +36,8 @@ impl Model for GuestImage {
     ghost view = { λ g. record { pages = g.pages; vcpus = g.vcpus.items; segments = g.segments.items } };
 }
 
-/// An image: its version, 1; its features, of which there are none; 1 to 8 processors; and 1 to 4 guests.
+/// An image: its version, 1 or 2; its features, which are bits: none in version 1, and bit 0, FlushByAsid, in version 2; 1 to
+/// 8 processors; and 1 to 4 guests.
 #[derive(Drop)]
 pub struct Image {
     pub version: u16,

@@ -5,7 +5,7 @@ ghost use Rattle.svm_model.specs.Formats.ImageBytes.{image_in, image_of};
 ghost use Rattle.svm_model.specs.Formats.LawfulImages.{IsLawfulImage};
 ghost use Rattle.image_format.specs.Reading.{GivesImage, left};
 
-use crate::fields::{bounded_u8, bounded_u16, magic_in, zero_u32};
+use crate::fields::{bounded_u8, bounded_u16, features_in, magic_in};
 use crate::guest::guests_in;
 use crate::image::Image;
 use crate::refusal::{ImageRefusal, refused_at};
@@ -16,23 +16,23 @@ use svm_model::ImageReason;
 // The most bytes that an image has.
 const IMAGE_LIMIT: u32 = 67_108_864;
 
-// The magic, the version, the numbers of guests and processors, a zero, and the guests. Nothing may follow.
+// The magic, the version, the numbers of guests and processors, the word of features, and the guests. Nothing may follow.
 #[tactic(auto, unfolding(svm_model::specs::Formats::ImageBytes::image_in))]
 fn image_in(alloc: Global, source: Source) -> Result<Image, ImageRefusal>
     ensures { GivesImage result (image_in (left source.entry)) }
 {
     let (_, rest) = magic_in(source)?;
-    let (version, rest) = bounded_u16(1, 1, ImageReason::Version, rest)?;
+    let (version, rest) = bounded_u16(1, 2, ImageReason::Version, rest)?;
     let (count, rest) = bounded_u8(1, 4, ImageReason::Count, rest)?;
     let (cpus, rest) = bounded_u8(1, 8, ImageReason::Count, rest)?;
-    let (_, rest) = zero_u32(rest)?;
+    let (features, rest) = features_in(version, rest)?;
     let (guests, rest) = guests_in(alloc, count, rest)?;
     if !rest.rest.is_empty() {
         return Err(refused_at(rest, ImageReason::Trailing));
     }
     Ok(Image {
         version,
-        features: 0,
+        features,
         cpus,
         guests,
     })

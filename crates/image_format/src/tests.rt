@@ -79,13 +79,15 @@ struct Change {
 
 // A header of 16 bytes, a guest of 16, a vcpu of 64, and segments at 96, 120, 144, 168 and 192.
 #[rattlefmt::skip]
-const CHANGES: [Change; 32] = [
+const CHANGES: [Change; 34] = [
     Change { at: 7, bytes: b"F", length: 209, place: 0, reason: ImageReason::Magic },
-    Change { at: 8, bytes: &[2], length: 209, place: 8, reason: ImageReason::Version },
+    Change { at: 8, bytes: &[3], length: 209, place: 8, reason: ImageReason::Version },
+    Change { at: 8, bytes: &[2, 0, 1, 1, 2], length: 209, place: 12, reason: ImageReason::Feature },
     Change { at: 10, bytes: &[0], length: 209, place: 10, reason: ImageReason::Count },
     Change { at: 10, bytes: &[5], length: 209, place: 10, reason: ImageReason::Count },
     Change { at: 11, bytes: &[0], length: 209, place: 11, reason: ImageReason::Count },
     Change { at: 11, bytes: &[9], length: 209, place: 11, reason: ImageReason::Count },
+    Change { at: 12, bytes: &[1], length: 209, place: 12, reason: ImageReason::Zero },
     Change { at: 15, bytes: &[1], length: 209, place: 12, reason: ImageReason::Zero },
     Change { at: 16, bytes: &[0], length: 209, place: 16, reason: ImageReason::Count },
     Change { at: 16, bytes: &[9], length: 209, place: 16, reason: ImageReason::Count },
@@ -126,6 +128,16 @@ fn changes_are_refused(rt: HostRuntime) -> Result<(), Fail> {
             reason: change.reason,
         };
         assert_eq!(rt; parse_image(rt.alloc(), &image).err(), Some(refusal));
+    }
+    Ok(())
+}
+
+#[test]
+fn version_2_has_features(rt: HostRuntime) -> Result<(), Fail> {
+    for features in 0..2 {
+        let bytes = changed(rt.alloc(), 8, &[2, 0, 1, 1, features], 209)?;
+        let image = parse_image(rt.alloc(), &bytes).ok().ok_or("an image")?;
+        assert_eq!(rt; (image.version, image.features), (2, u32::from(features)));
     }
     Ok(())
 }

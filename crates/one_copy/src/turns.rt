@@ -4,6 +4,7 @@ ghost use Rattle.port_bus.specs.Causes.{NoneFell};
 ghost use Rattle.svm_model.specs.Memory.Bytes.{IsWithin, SameOutside, guest_of};
 ghost use Rattle.svm_model.specs.Turn.Play.{play};
 ghost use Rattle.svm_model.specs.Turn.Work.{turn_course};
+ghost use Rattle.turn_exec.specs.Begun.{nothing};
 ghost use Rattle.turn_exec.specs.Follows.{Ensues};
 ghost use Rattle.turn_exec.specs.Plays.{board_with, IsBlamed, refused_at};
 ghost use Rattle.one_copy.specs.Recalls.{keeps};
@@ -13,8 +14,8 @@ use host_memory::{GuestWindow, HostMemory, Steps};
 use port_bus::Ports;
 use row_table::KeptRows;
 use std::sync::ledger::Ledger;
-use svm_model::{Facts, Outer, Space, Vcpu};
-use turn_exec::{Alone, Apics, Translator, TurnEnd};
+use svm_model::{Facts, Outer, Space, Stepped, Vcpu};
+use turn_exec::{Alone, Apics, Outward, Translator};
 
 /// The turn of a vcpu in L1, for which the copy is dropped first, where its APIC gives no vector. At most 896 reads are
 /// counted. Where the rule is kept within the turn, memory, what stands about the vcpu, the vcpu and the answer are those of
@@ -30,21 +31,23 @@ pub fn take_turn<B: Ports, A: Apics, L: Ledger>(
     facts: &Facts,
     vcpu: &mut Vcpu,
     steps: &mut Steps<L>,
-) -> TurnEnd
+    outward: &mut Outward,
+) -> Stepped
     requires window { IsWithin window memory.old.bytes }
     requires pages { window.size % 4096 ≡ 0 }
     requires some { 4096 ≤ window.size }
     requires direct { space.now.outer ≡ Outer.Direct }
-    ensures follows { Ensues (⟦<OneCopy as Translator>⟧.stands) true keeps (play (record { space = space.now; refused = refused_at result.refused result.calls }) (board_with (B.bus bus.old) (A.apic apics.old) (A.sent apics.old) 0 None None) (guest_of window memory.old.bytes) []
+    requires begun { outward.old ≡ nothing }
+    ensures follows { Ensues (⟦<OneCopy as Translator>⟧.stands) true keeps (play (record { space = space.now; refused = refused_at outward.new.refused outward.new.calls }) (board_with (B.bus bus.old) (A.apic apics.old) None 0 None None) (guest_of window memory.old.bytes) []
         (turn_course None facts.now vcpu.old None))
-        [] copy.new (guest_of window memory.new.bytes) (board_with (B.bus bus.new) (A.apic apics.new) (A.sent apics.new) result.calls result.refused result.denied) vcpu.new result.stepped }
+        [] copy.new (guest_of window memory.new.bytes) (board_with (B.bus bus.new) (A.apic apics.new) outward.new.sent outward.new.calls outward.new.refused outward.new.denied) vcpu.new result }
     ensures others { SameOutside window memory.old.bytes memory.new.bytes }
     ensures none_fell { NoneFell (B.faults bus.old) (B.faults bus.new) }
-    ensures blamed { IsBlamed result.refused (B.faults bus.old) (B.faults bus.new) }
+    ensures blamed { IsBlamed outward.new.refused (B.faults bus.old) (B.faults bus.new) }
     ensures steps { steps.new ≤ steps.old + 896 }
 {
     copy.drop_copy();
     turn_exec::take_turn(
-        copy, memory, window, space, bus, apics, &Alone, rows, facts, vcpu, None, steps,
+        copy, memory, window, space, bus, apics, &Alone, rows, facts, vcpu, None, steps, outward,
     )
 }

@@ -10,6 +10,7 @@ use Rattle.svm_model.specs.Machine.Guest.{Guest}
 use Rattle.svm_model.specs.Machine.PlainTurn.{turned}
 use Rattle.svm_model.specs.Machine.Turns.{board_of, end_by}
 use Rattle.svm_model.specs.Turn.Course.{Board, Turned}
+use Rattle.svm_model.specs.declared.apics.Ipi.{Ipi}
 use Rattle.svm_model.specs.declared.names.Ended.{Ended}
 use Rattle.svm_model.specs.declared.names.RunEnd.{RunEnd}
 use Rattle.svm_model.specs.declared.ports.PortWrite.{PortWrite}
@@ -21,6 +22,8 @@ use Rattle.svm_model.specs.Turn.Course.{Told}
 use Rattle.port_bus.specs.Causes.{Blames}
 use Rattle.plain_machine.specs.GuestTurns.{GuestTurn, guest_turn, facts_in, outcome_of, turn_done_in, with_live_in, with_vcpu_in, with_apic_in, IsOutIn}
 use Rattle.plain_machine.specs.declared.turns.Cut.{Cut}
+use Rattle.plain_machine.proofs.SendingLemmas.{insides-sent, length-sent, with_sent-is}
+use Rattle.plain_machine.specs.Sending.{apics_sent_to, vcpus_sent_to}
 use Rattle.plain_machine.specs.Slots.{Kept, layout}
 use Rattle.plain_machine.specs.Turning.{Gives, GrantsLast}
 use Rattle.plain_machine.specs.declared.turns.Moment.{Moment}
@@ -52,13 +55,13 @@ not_ended (Some end) e = absurd (cc)
 made : List ℕ → Board → Vcpu → Stepped → List Told → Turned
 made memory board vcpu stepped told = record { memory = memory; board = board; vcpu = vcpu; stepped = stepped; told = told }
 
--- the guest behind the turn of its vcpu
-abbrev pub after_turn : Guest → ℕ → Option Ended → List ℕ → Vcpu → Apic → Guest
-after_turn guest index ended memory vcpu apic = record {
+-- the guest behind the turn of its vcpu, which is the sender
+abbrev pub after_turn : Guest → ℕ → ℕ → Option Ended → List ℕ → Vcpu → Apic → Option Ipi → Guest
+after_turn guest sender index ended memory vcpu apic sent = record {
   memory = memory;
   ended = ended;
-  vcpus = slice_set guest.vcpus index vcpu;
-  apics = slice_set guest.apics index apic;
+  vcpus = vcpus_sent_to sent sender (slice_set guest.apics index apic) (slice_set guest.vcpus index vcpu);
+  apics = apics_sent_to sent sender (slice_set guest.apics index apic);
 }
 
 -- how the turn of a guest's vcpu comes out
@@ -72,23 +75,25 @@ pub record Comes (m : Moment) (old new : Bus) (faults later : List (Option ℕ))
   pub blamed : IfErr result (λ cut. Blames cut.end faults later)
 
 -- the guest's turn is what the executor's turn of its vcpu gives
-gives_guest : (refused : Option ℕ) (m : Moment) (bus new : Bus) (guest : Guest) (vcpu after : Vcpu) (apic gone : Apic) (memory : List ℕ) (calls : ℕ) (end : Option RunEnd) (denied : Option PortWrite) (stepped : Stepped) →
+gives_guest : (refused : Option ℕ) (m : Moment) (bus new : Bus) (guest : Guest) (vcpu after : Vcpu) (apic gone : Apic) (memory : List ℕ) (calls : ℕ) (end : Option RunEnd) (denied : Option PortWrite) (stepped : Stepped) (sent : Option Ipi) →
     guest.ended ≡ None → slice_get guest.vcpus m.vcpu.index ≡ Some vcpu → slice_get guest.apics m.vcpu.index ≡ Some apic →
-    Gives (turned refused (facts_in m vcpu apic) (board_of bus apic) guest.memory vcpu) memory (board_with new gone None calls end denied) after stepped →
+    Gives (turned refused (facts_in m vcpu apic) (board_of bus apic) guest.memory vcpu) memory (board_with new gone sent calls end denied) after stepped →
     guest_turn refused m bus guest ≡ record {
-      guest = after_turn guest m.vcpu.index (end_by m.vcpu.index m.event stepped) memory after gone;
+      guest = after_turn guest m.vcpu.index m.vcpu.index (end_by m.vcpu.index m.event stepped) memory after gone sent;
       bus = new;
       ended = end_by m.vcpu.index m.event stepped;
       calls = calls;
       denied = denied;
     }
-gives_guest refused m bus new guest vcpu after apic gone memory calls end denied stepped e v a g =
+gives_guest refused m bus new guest vcpu after apic gone memory calls end denied stepped sent e v a g =
     let t : Turned = turned refused (facts_in m vcpu apic) (board_of bus apic) guest.memory vcpu in
     live refused m bus guest vcpu apic e v a
     ∙ ap (λ (x : List ℕ). turn_done_in m guest (record { memory = x; board = t.board; vcpu = t.vcpu; stepped = t.stepped; told = t.told })) g.memory_is
     ∙ ap (λ (x : Board). turn_done_in m guest (record { memory = memory; board = x; vcpu = t.vcpu; stepped = t.stepped; told = t.told })) g.board_is
-    ∙ ap (λ (x : Vcpu). turn_done_in m guest (record { memory = memory; board = board_with new gone None calls end denied; vcpu = x; stepped = t.stepped; told = t.told })) g.vcpu_is
-    ∙ ap (λ (x : Stepped). turn_done_in m guest (record { memory = memory; board = board_with new gone None calls end denied; vcpu = after; stepped = x; told = t.told })) g.stepped_is
+    ∙ ap (λ (x : Vcpu). turn_done_in m guest (record { memory = memory; board = board_with new gone sent calls end denied; vcpu = x; stepped = t.stepped; told = t.told })) g.vcpu_is
+    ∙ ap (λ (x : Stepped). turn_done_in m guest (record { memory = memory; board = board_with new gone sent calls end denied; vcpu = after; stepped = x; told = t.told })) g.stepped_is
+    ∙ ap (λ (x : Guest). record { guest = x; bus = new; ended = end_by m.vcpu.index m.event stepped; calls = calls; denied = denied })
+    (with_sent-is sent m.vcpu.index (record { memory = memory; ended = end_by m.vcpu.index m.event stepped; vcpus = slice_set guest.vcpus m.vcpu.index after; apics = slice_set guest.apics m.vcpu.index gone }))
 
 -- a turn that was cut off was denied a write
 was_out : (m : Moment) (bus : Bus) (guest : Guest) (calls : ℕ) (denied : Option PortWrite) (vcpu : Vcpu) (apic : Apic) →
@@ -109,15 +114,15 @@ was_kept : (bus new : Bus) (denied : Option PortWrite) → true ≡ is_some deni
 was_kept bus new None some kept = absurd (cc)
 was_kept bus new (Some write) some kept = kept
 
-pub came : (m : Moment) (bus new : Bus) (faults later : List (Option ℕ)) (guest : Guest) (vcpu after : Vcpu) (apic gone : Apic) (memory : List ℕ) (calls : ℕ) (end : Option RunEnd) (denied : Option PortWrite) (stepped : Stepped) →
+pub came : (m : Moment) (bus new : Bus) (faults later : List (Option ℕ)) (guest : Guest) (vcpu after : Vcpu) (apic gone : Apic) (memory : List ℕ) (calls : ℕ) (end : Option RunEnd) (denied : Option PortWrite) (stepped : Stepped) (sent : Option Ipi) →
     guest.ended ≡ None → slice_get guest.vcpus m.vcpu.index ≡ Some vcpu → slice_get guest.apics m.vcpu.index ≡ Some apic →
-    Gives (turned (refused_at end calls) (facts_in m vcpu apic) (board_of bus apic) guest.memory vcpu) memory (board_with new gone None calls end denied) after stepped →
+    Gives (turned (refused_at end calls) (facts_in m vcpu apic) (board_of bus apic) guest.memory vcpu) memory (board_with new gone sent calls end denied) after stepped →
     is_some end ≡ is_some denied → IfSome denied (λ write. new ≡ bus) →
     IfSome denied (λ write. GrantsLast calls bus write (turned None (facts_in m vcpu apic) (board_of bus apic) guest.memory vcpu)) →
     IsBlamed end faults later →
-    Comes m bus new faults later guest (after_turn guest m.vcpu.index (end_by m.vcpu.index m.event stepped) memory after gone) (outcome_of (end_by m.vcpu.index m.event stepped) end calls)
-came m bus new faults later guest vcpu after apic gone memory calls None denied stepped e v a g out kept last blamed =
-    let is = gives_guest None m bus new guest vcpu after apic gone memory calls None denied stepped e v a g in
+    Comes m bus new faults later guest (after_turn guest m.vcpu.index m.vcpu.index (end_by m.vcpu.index m.event stepped) memory after gone sent) (outcome_of (end_by m.vcpu.index m.event stepped) end calls)
+came m bus new faults later guest vcpu after apic gone memory calls None denied stepped sent e v a g out kept last blamed =
+    let is = gives_guest None m bus new guest vcpu after apic gone memory calls None denied stepped sent e v a g in
     record {
       guest_is = sym (ap (λ (t : GuestTurn). t.guest) is);
       bus_is = sym (ap (λ (t : GuestTurn). t.bus) is);
@@ -127,8 +132,8 @@ came m bus new faults later guest vcpu after apic gone memory calls None denied 
       kept = tt;
       blamed = tt;
     }
-came m bus new faults later guest vcpu after apic gone memory calls (Some end) denied stepped e v a g out kept last blamed =
-    let is = gives_guest (Some calls) m bus new guest vcpu after apic gone memory calls (Some end) denied stepped e v a g in
+came m bus new faults later guest vcpu after apic gone memory calls (Some end) denied stepped sent e v a g out kept last blamed =
+    let is = gives_guest (Some calls) m bus new guest vcpu after apic gone memory calls (Some end) denied stepped sent e v a g in
     record {
       guest_is = tt;
       bus_is = tt;
@@ -144,16 +149,16 @@ came m bus new faults later guest vcpu after apic gone memory calls (Some end) d
 pub at_index : {A : Type 0} (xs : List A) (i j : ℕ) (x : A) → x ≡ slice_index_or xs i x → i ≡ j → i < length xs → slice_get xs j ≡ Some x
 at_index xs i j x e is h = ap (slice_get xs) (sym is) ∙ slice_get-get_or xs i x h ∙ ap (λ y. Some y) (sym e)
 
-pub came_at : (m : Moment) (i : ℕ) (bus new : Bus) (faults later : List (Option ℕ)) (guest : Guest) (vcpu after : Vcpu) (apic gone : Apic) (memory : List ℕ) (calls : ℕ) (end : Option RunEnd) (denied : Option PortWrite) (stepped : Stepped) →
+pub came_at : (m : Moment) (i : ℕ) (bus new : Bus) (faults later : List (Option ℕ)) (guest : Guest) (vcpu after : Vcpu) (apic gone : Apic) (memory : List ℕ) (calls : ℕ) (end : Option RunEnd) (denied : Option PortWrite) (stepped : Stepped) (sent : Option Ipi) →
     i ≡ m.vcpu.index → guest.ended ≡ None → vcpu ≡ slice_index_or guest.vcpus i vcpu → i < length guest.vcpus → apic ≡ slice_index_or guest.apics i apic → i < length guest.apics →
-    Gives (turned (refused_at end calls) (facts_in m vcpu apic) (board_of bus apic) guest.memory vcpu) memory (board_with new gone None calls end denied) after stepped →
+    Gives (turned (refused_at end calls) (facts_in m vcpu apic) (board_of bus apic) guest.memory vcpu) memory (board_with new gone sent calls end denied) after stepped →
     is_some end ≡ is_some denied → IfSome denied (λ write. new ≡ bus) →
     IfSome denied (λ write. GrantsLast calls bus write (turned None (facts_in m vcpu apic) (board_of bus apic) guest.memory vcpu)) →
     IsBlamed end faults later →
-    Comes m bus new faults later guest (after_turn guest i (end_by m.vcpu.index m.event stepped) memory after gone) (outcome_of (end_by m.vcpu.index m.event stepped) end calls)
-came_at m i bus new faults later guest vcpu after apic gone memory calls end denied stepped is e v in_vcpus a in_apics g out kept last blamed =
-    subst (λ (n : ℕ). Comes m bus new faults later guest (after_turn guest n (end_by m.vcpu.index m.event stepped) memory after gone) (outcome_of (end_by m.vcpu.index m.event stepped) end calls)) (sym is)
-    (came m bus new faults later guest vcpu after apic gone memory calls end denied stepped e
+    Comes m bus new faults later guest (after_turn guest m.vcpu.index i (end_by m.vcpu.index m.event stepped) memory after gone sent) (outcome_of (end_by m.vcpu.index m.event stepped) end calls)
+came_at m i bus new faults later guest vcpu after apic gone memory calls end denied stepped sent is e v in_vcpus a in_apics g out kept last blamed =
+    subst (λ (n : ℕ). Comes m bus new faults later guest (after_turn guest m.vcpu.index n (end_by m.vcpu.index m.event stepped) memory after gone sent) (outcome_of (end_by m.vcpu.index m.event stepped) end calls)) (sym is)
+    (came m bus new faults later guest vcpu after apic gone memory calls end denied stepped sent e
     (at_index guest.vcpus i m.vcpu.index vcpu v is in_vcpus) (at_index guest.apics i m.vcpu.index apic a is in_apics) g out kept last blamed)
 
 -- no vcpu of a slot runs a guest of its own
@@ -172,10 +177,12 @@ insides-set (v ∷ vcpus) zero vcpu after e same =
 insides-set (v ∷ vcpus) (suc i) vcpu after e same = ap (λ (os : List (Option Inside)). v.inside ∷ os) (insides-set vcpus i vcpu after e same)
 
 -- a turn leaves the guest's layout
-pub layout-after : (slot : Kept) (end : Option Ended) (i : ℕ) (vcpu after : Vcpu) (gone : Apic) → slice_get slot.vcpus i ≡ Some vcpu → after.inside ≡ vcpu.inside →
-    layout (record { window = slot.window; ended = end; vcpus = slice_set slot.vcpus i after; apics = slice_set slot.apics i gone }) ≡ layout slot
-layout-after slot end i vcpu after gone e same =
-    ap (λ (os : List (Option Inside)). record { window = slot.window; insides = os; apics = length (slice_set slot.apics i gone) }) (insides-set slot.vcpus i vcpu after e same)
+pub layout-after : (slot : Kept) (end : Option Ended) (i sender : ℕ) (vcpu after : Vcpu) (gone : Apic) (sent : Option Ipi) → slice_get slot.vcpus i ≡ Some vcpu → after.inside ≡ vcpu.inside →
+    layout (record { window = slot.window; ended = end; vcpus = vcpus_sent_to sent sender (slice_set slot.apics i gone) (slice_set slot.vcpus i after); apics = apics_sent_to sent sender (slice_set slot.apics i gone) }) ≡ layout slot
+layout-after slot end i sender vcpu after gone sent e same =
+    ap (λ (os : List (Option Inside)). record { window = slot.window; insides = os; apics = length (apics_sent_to sent sender (slice_set slot.apics i gone)) }) (insides-sent sent sender (slice_set slot.apics i gone) (slice_set slot.vcpus i after))
+    ∙ ap (λ (n : ℕ). record { window = slot.window; insides = map (λ (v : Vcpu). v.inside) (slice_set slot.vcpus i after); apics = n }) (length-sent sent sender (slice_set slot.apics i gone))
+    ∙ ap (λ (os : List (Option Inside)). record { window = slot.window; insides = os; apics = length (slice_set slot.apics i gone) }) (insides-set slot.vcpus i vcpu after e same)
     ∙ ap (λ (n : ℕ). record { window = slot.window; insides = map (λ (v : Vcpu). v.inside) slot.vcpus; apics = n }) (length-set slot.apics i gone)
 
 -- The turn among all guests.

@@ -1,11 +1,12 @@
 pub mod ChangeLemmas
 pub mod GuestTurnLemmas
-pub mod Idle
+pub mod HeedLemmas
 pub mod LookupLemmas
 pub mod OpeningLemmas
 pub mod OtherLemmas
 pub mod PlacingLemmas
 pub mod Rows
+pub mod SendingLemmas
 pub mod TimerLemmas
 pub mod Turning
 pub mod WellFormed

@@ -53,6 +53,7 @@ is_slot base guest lawful = record {
   pages = grind arith;
   some = let p = lawful.some_pages in omega (arith, p);
   apics = length-first_apics 0 guest.vcpus ∙ sym (length-map (map first_vcpu guest.vcpus) (λ (v : Vcpu). v.inside) ∙ length-map guest.vcpus first_vcpu);
+  few = omega (arith, length-first_apics 0 guest.vcpus, lawful.most_vcpus);
   outside = insides guest.vcpus;
 }
 

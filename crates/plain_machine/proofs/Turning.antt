@@ -4,7 +4,7 @@ use Rattle.svm_model.proofs.LastPlays.{DeniesLast, turn-denied, turn-outside}
 use Rattle.svm_model.specs.Machine.Apic.{Apic, pending}
 use Rattle.svm_model.specs.Machine.Bus.{Bus}
 use Rattle.svm_model.specs.Turn.Control.{space_of}
-use Rattle.svm_model.specs.Turn.Course.{Board, Told, Turned, Way}
+use Rattle.svm_model.specs.Turn.Course.{Board, Course, Told, Turned, Way}
 use Rattle.svm_model.specs.Turn.Play.{play}
 use Rattle.svm_model.specs.Machine.Notices.{exited}
 use Rattle.svm_model.specs.Machine.PlainTurn.{settled, turned, turned_in, turned_under, way_of}
@@ -84,15 +84,16 @@ grants-last facts bus apic memory vcpu call write refused e d =
     }
 
 pub turn-taken : (refused : Option ℕ) (facts : Facts) (bus : Bus) (apic : Apic) (memory : List ℕ) (vcpu : Vcpu) (interrupt : Option ℕ) (space : Space) (new : List ℕ) (board : Board) (after : Vcpu) (stepped : Stepped) →
-    interrupt ≡ pending apic → space ≡ space_of None vcpu → vcpu.inside ≡ None →
+    turn_course None facts vcpu interrupt ≡ turn_course None facts vcpu (pending apic) → space ≡ space_of None vcpu → vcpu.inside ≡ None →
     new ≡ (play (record { space = space; refused = refused }) (board_of bus apic) memory [] (turn_course None facts vcpu interrupt)).memory →
     board ≡ (play (record { space = space; refused = refused }) (board_of bus apic) memory [] (turn_course None facts vcpu interrupt)).board →
     after ≡ (play (record { space = space; refused = refused }) (board_of bus apic) memory [] (turn_course None facts vcpu interrupt)).vcpu →
     stepped ≡ (play (record { space = space; refused = refused }) (board_of bus apic) memory [] (turn_course None facts vcpu interrupt)).stepped →
     Taken refused facts bus apic memory vcpu new board after stepped
 turn-taken refused facts bus apic memory vcpu interrupt space new board after stepped gives same e in_memory in_board in_vcpu in_stepped =
-    let t : Space → Option ℕ → Turned = λ s o. play (record { space = s; refused = refused }) (board_of bus apic) memory [] (turn_course None facts vcpu o) in
-    let is : t space interrupt ≡ t (space_of None vcpu) (pending apic) = ap (λ (s : Space). t s interrupt) same ∙ ap (t (space_of None vcpu)) gives in
+    let t : Space → Course → Turned = λ s course. play (record { space = s; refused = refused }) (board_of bus apic) memory [] course in
+    let here = turn_course None facts vcpu interrupt in
+    let is : t space here ≡ t (space_of None vcpu) (turn_course None facts vcpu (pending apic)) = ap (λ (s : Space). t s here) same ∙ ap (t (space_of None vcpu)) gives in
     let way : Way = record { space = space_of None vcpu; refused = refused } in
     let out = turn-outside way (board_of bus apic) memory facts vcpu (pending apic) e in
     let whole = turned-played refused facts bus apic memory vcpu e out in

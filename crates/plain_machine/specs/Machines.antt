@@ -1,5 +1,6 @@
 -- The machine in clauses, and its guests and vcpus by their names.
 use Rattle.std.specs.Prelude.{ℕ, Bool, Option, Some, None, slice_get}
+use Rattle.svm_model.specs.Machine.Apic.{Apic}
 use Rattle.svm_model.specs.Machine.Guest.{Guest}
 use Rattle.svm_model.specs.Machine.World.{World}
 use Rattle.svm_model.specs.declared.names.GuestId.{GuestId}
@@ -18,6 +19,14 @@ guest_in w id = slice_get w.guests id.0
 abbrev pub vcpu_of : Option Guest → ℕ → Option Vcpu
 vcpu_of None index = None
 vcpu_of (Some guest) index = slice_get guest.vcpus index
+
+abbrev pub apic_of : Option Guest → ℕ → Option Apic
+apic_of None index = None
+apic_of (Some guest) index = slice_get guest.apics index
+
+-- the APIC of the vcpu of that name
+abbrev pub apic_in : World → VcpuId → Option Apic
+apic_in w id = apic_of (guest_in w id.guest) id.index
 
 -- the vcpu of that name
 abbrev pub vcpu_in : World → VcpuId → Option Vcpu

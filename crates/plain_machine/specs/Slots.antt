@@ -1,7 +1,7 @@
 -- A guest as the machine keeps it: its window of host memory in the place of its memory.
 use Rattle.std.specs.Prelude.{◌≡◌, ℕ, ◌+◌, ◌%◌, ◌<◌, ◌≤◌, List, [], ◌∷◌, Option, Some, None, length, map, slice_get}
 use Rattle.std.specs.List.{All}
-use Rattle.svm_model.specs.Machine.Apic.{Apic, expired, first_apic}
+use Rattle.svm_model.specs.Machine.Apic.{Apic, expired}
 use Rattle.svm_model.specs.Machine.Guest.{Guest}
 use Rattle.svm_model.specs.Machine.Shapes.{IsOneToOne}
 use Rattle.svm_model.specs.Memory.Bytes.{guest_of}
@@ -10,10 +10,6 @@ use Rattle.svm_model.specs.declared.names.VcpuId.{VcpuId}
 use Rattle.svm_model.specs.declared.vcpus.Inside.{Inside}
 use Rattle.svm_model.specs.declared.vcpus.Vcpu.{Vcpu}
 use Rattle.svm_model.specs.declared.windows.GuestWindow.{GuestWindow}
-
--- an APIC that no interrupt reaches: it is as at the start, but for its task priority
-abbrev pub idle_apic : ℕ → ℕ → Apic
-idle_apic id tpr = record (first_apic id) { tpr = tpr }
 
 pub record Kept : Type 0 where
   pub window : GuestWindow
@@ -40,11 +36,12 @@ layout slot = record { window = slot.window; insides = map (λ (v : Vcpu). v.ins
 abbrev pub layouts : List Kept → List Layout
 layouts slots = map layout slots
 
--- a window of whole pages, of which there is one at least; an APIC for each vcpu, none of which runs a guest of its own
+-- a window of whole pages, of which there is one at least; an APIC for each vcpu, eight at most; no vcpu runs a guest of its own
 pub record IsSlot (l : Layout) : Type 0 where
   pub pages : l.window.size % 4096 ≡ 0
   pub some : 4096 ≤ l.window.size
   pub apics : l.apics ≡ length l.insides
+  pub few : l.apics ≤ 8
   pub outside : All (λ (o : Option Inside). o ≡ None) l.insides
 
 -- The windows stand in a row from a place on, and all within so many bytes: no two have a byte in common.

@@ -9,15 +9,16 @@
 #![tactic(auto)]
 
 mod changes;
-mod idle_apic;
 mod loading;
 mod lookups;
 mod machine;
 mod opening;
 mod placing;
+mod sending;
 mod slots;
 mod timers;
 mod turns;
 mod walking;
 
+pub use apic_state::Apic;
 pub use machine::PlainMachine;

@@ -10,17 +10,18 @@ ghost use Rattle.svm_model.specs.Machine.Shapes.{world_shape, image_shape, IsNam
 ghost use Rattle.svm_model.specs.Machine.Turns.{plain_turn, turn_of};
 ghost use Rattle.svm_model.specs.Machine.World.{world_of};
 ghost use Rattle.port_bus.specs.Causes.{Blames, NoneFell};
-ghost use Rattle.plain_machine.specs.Machines.{vcpu_in, guest_in};
+ghost use Rattle.plain_machine.specs.Machines.{apic_in, vcpu_in, guest_in};
 ghost use Rattle.plain_machine.specs.Others.{OthersStay};
 ghost use Rattle.plain_machine.specs.Reads.{is_run};
 
 use crate::changes::{interrupt, make_nmi_pending};
-use crate::lookups::{slot_of, vcpu_at};
+use crate::lookups::{apic_at, slot_of, vcpu_at};
 use crate::opening::{open_guests, pages_in};
 use crate::placing::{none_placed, place_on, placed_at};
 use crate::slots::Slot;
 use crate::timers::ring_guests;
 use crate::turns::{Cut, Moment, turn_in};
+use apic_state::Apic;
 use host_memory::{HostMemory, OutsideMemory, Steps};
 use image_format::Image;
 use port_bus::Ports;
@@ -369,6 +370,15 @@ impl PlainMachine {
         ensures { option_map (λ v. v.registers) (vcpu_in self.now.world vcpu) ≡ Some result.now }
     {
         &self.vcpu(vcpu).registers
+    }
+
+    /// The local APIC of a vcpu, which the image has to have.
+    #[tactic(auto, using(crate::proofs::Worlds::worlds))]
+    pub fn apic(&self, vcpu: VcpuId) -> &Apic
+        requires { IsVcpu (world_shape self.now.world) vcpu }
+        ensures { apic_in self.now.world vcpu ≡ Some result.now }
+    {
+        apic_at(&self.guests, vcpu)
     }
 
     /// The level of a vcpu, which the image has to have: 1, as no vcpu runs a guest of its own.

@@ -7,9 +7,9 @@ ghost use Rattle.svm_model.specs.Memory.Bytes.{SameOutside, guest_of};
 ghost use Rattle.plain_machine.specs.Opening.{pages_in as pages_of, slot_of, slots_of};
 ghost use Rattle.plain_machine.specs.Slots.{guests_at};
 
-use crate::idle_apic::IdleApic;
 use crate::loading::load_segments;
 use crate::slots::Slot;
+use apic_state::Apic;
 use host_memory::{GuestWindow, HostMemory};
 use image_format::GuestImage;
 use std::alloc::Global;
@@ -57,13 +57,13 @@ fn first_vcpus(alloc: Global, starts: &[Registers]) -> Result<Vec<Vcpu>, NoMemor
 }
 
 /// An APIC for each vcpu, whose identifier is the vcpu's number.
-fn first_apics(alloc: Global, starts: &[Registers]) -> Result<Vec<IdleApic>, NoMemory>
+fn first_apics(alloc: Global, starts: &[Registers]) -> Result<Vec<Apic>, NoMemory>
     requires { length starts.now ≤ 8 }
     ensures { IfOk result (λ apics. apics.items ≡ apics_of 0 starts.now) }
 {
     let mut apics = Vec::new(alloc);
     for id in 0..starts.len() {
-        let Ok(()) = apics.push(IdleApic::new(id as u8)) else {
+        let Ok(()) = apics.push(Apic::new(id as u8)) else {
             return Err(NoMemory);
         };
     }

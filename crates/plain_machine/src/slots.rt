@@ -1,6 +1,6 @@
 // A guest as the machine keeps it.
 
-use crate::idle_apic::IdleApic;
+use apic_state::Apic;
 use host_memory::GuestWindow;
 use std::marker::Model;
 use svm_model::{Ended, Vcpu};
@@ -11,7 +11,7 @@ pub struct Slot {
     pub window: GuestWindow,
     pub ended: Option<Ended>,
     pub vcpus: Vec<Vcpu>,
-    pub apics: Vec<IdleApic>,
+    pub apics: Vec<Apic>,
 }
 
 impl Model for Slot {

@@ -3,11 +3,11 @@ ghost use Rattle.std.specs.Prelude.{◌≡◌, ℕ, List, map};
 ghost use Rattle.svm_model.specs.Machine.Events.{guest_with_timers};
 ghost use Rattle.plain_machine.specs.Slots.{guests_at, layouts, rung, rung_slot};
 
-use crate::idle_apic::IdleApic;
 use crate::slots::Slot;
+use apic_state::Apic;
 
 /// The timers of a guest's vcpus: those that are due accept.
-fn ring_apics(apics: &mut [IdleApic], event: u32)
+fn ring_apics(apics: &mut [Apic], event: u32)
     ensures { apics.new ≡ map (rung event) apics.old }
 {
     for i in 0..apics.len() {

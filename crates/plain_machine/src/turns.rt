@@ -6,14 +6,16 @@ ghost use Rattle.port_bus.specs.Causes.{Blames, NoneFell};
 ghost use Rattle.plain_machine.specs.GuestTurns.{facts_in, guest_turn, outcome_of, IsOutIn};
 ghost use Rattle.plain_machine.specs.Slots.{guest_at, guests_at, layout, layouts, AreInRow, IsSlot};
 
-use crate::idle_apic::IdleApic;
+use crate::sending::spread;
 use crate::slots::Slot;
 use crate::walking::take_turn;
+use apic_state::Apic;
 use host_memory::{HostMemory, Steps};
 use port_bus::Ports;
 use row_table::KeptRows;
 use std::sync::ledger::Ledger;
 use svm_model::{Ended, Facts, RunEnd, Stepped, Vcpu, VcpuId};
+use turn_exec::Outward;
 
 /// Whose turn it is, at which event, on a machine of which features.
 #[derive(Clone, Copy)]
@@ -31,12 +33,12 @@ pub struct Cut {
 }
 
 /// The end that came in a turn.
-fn end_by(moment: &Moment, stepped: Stepped) -> Option<Ended>
-    ensures { result ≡ end_of_turn moment.now.vcpu.index moment.now.event stepped }
+fn end_by(moment: &Moment, stepped: &Stepped) -> Option<Ended>
+    ensures { result ≡ end_of_turn moment.now.vcpu.index moment.now.event stepped.now }
 {
     match stepped {
         Stepped::Ends(end) => Some(Ended {
-            end,
+            end: *end,
             vcpu: moment.vcpu.index,
             event: moment.event,
         }),
@@ -45,7 +47,7 @@ fn end_by(moment: &Moment, stepped: Stepped) -> Option<Ended>
 }
 
 /// What a turn of the vcpu knows. The time-stamp counter is the event's number and the vcpu's addend.
-fn facts_of(moment: &Moment, vcpu: &Vcpu, apic: &IdleApic) -> Facts
+fn facts_of(moment: &Moment, vcpu: &Vcpu, apic: &Apic) -> Facts
     ensures { result ≡ facts_in moment.now vcpu.now apic.now }
 {
     Facts {
@@ -116,10 +118,22 @@ fn turn_guest<B: Ports, L: Ledger>(
     let vcpu = &mut slot.vcpus[index];
     let apic = &mut slot.apics[index];
     let facts = facts_of(moment, vcpu, apic);
-    let turn = take_turn(memory, slot.window, bus, apic, rows, &facts, vcpu, steps);
-    let ended = end_by(moment, turn.stepped);
+    let mut outward = Outward::new();
+    let stepped = take_turn(
+        memory,
+        slot.window,
+        bus,
+        apic,
+        rows,
+        &facts,
+        vcpu,
+        steps,
+        &mut outward,
+    );
+    let ended = end_by(moment, &stepped);
     note_end(&mut slot.ended, ended);
-    outcome_of(ended, turn.refused, turn.calls)
+    spread(slot, moment.vcpu.index, outward.sent);
+    outcome_of(ended, outward.refused, outward.calls)
 }
 
 /// The turn of a vcpu of one of the guests, whose windows stand in a row. All others stay as they are.

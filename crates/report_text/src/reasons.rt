@@ -16,6 +16,7 @@ pub fn image_reason_name(reason: ImageReason) -> &'static str
         ImageReason::Version => "Version",
         ImageReason::Count => "Count",
         ImageReason::Zero => "Zero",
+        ImageReason::Feature => "Feature",
         ImageReason::Register => "Register",
         ImageReason::Range => "Range",
         ImageReason::Trailing => "Trailing",

@@ -5,7 +5,7 @@ ghost use Rattle.svm_model.specs.Formats.Script.{IsLawful, events_of};
 ghost use Rattle.svm_model.specs.Machine.Shapes.{Shape, IsNamed};
 ghost use Rattle.script_format.specs.Order.{IsScriptFor};
 
-use crate::events::event_in;
+use crate::events::event_near;
 use std::marker::Model;
 use svm_model::{Event, ScriptLine};
 
@@ -35,6 +35,17 @@ impl Script {
         ensures past { IsNone result ↔ (self.now.events ≤ number) }
         ensures named { (shape : Shape) → IsLawful shape self.now → IfSome result (IsNamed shape) }
     {
-        event_in(&self.lines, self.events, number, cpus)
+        self.event_near(number, cpus, &mut 0)
+    }
+
+    /// The event of a number, as `event_at` gives it, found at once where it is on the line of this place, one of `lines`;
+    /// any other place is right too, and the line is found by halving. The place of its line is left there.
+    pub fn event_near(&self, number: u32, cpus: u8, place: &mut usize) -> Option<Event>
+        requires lawful { IsScriptFor cpus self.now }
+        ensures event { result ≡ slice_get (events_of cpus self.now) number }
+        ensures past { IsNone result ↔ (self.now.events ≤ number) }
+        ensures named { (shape : Shape) → IsLawful shape self.now → IfSome result (IsNamed shape) }
+    {
+        event_near(&self.lines, self.events, number, cpus, place)
     }
 }

@@ -101,8 +101,9 @@ pub fn run_events<B: Ports, K: Sink, L: Ledger>(
     ensures later_faults { K.faults sink.old ≤ K.faults sink.new }
     ensures later_refusals { K.refusals sink.old ≤ K.refusals sink.new }
 {
+    let mut line = 0;
     for number in 0..script.events {
-        let Some(event) = script.event_at(number, cpus) else {
+        let Some(event) = script.event_near(number, cpus, &mut line) else {
             unreachable!();
         };
         match run_event(alloc, machine, event, bus, sink, steps) {

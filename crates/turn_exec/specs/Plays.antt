@@ -58,9 +58,10 @@ pub record Plays {S : Type 0} (stands : S → List Told → Type 0) (copies : Bo
       history last (guest_of window new) last_board vcpu stepped
 
 -- the references are the same
-pub record SameNames {A B C D E : Type 0} (a0 a1 : A) (b0 b1 : B) (c0 c1 : C) (d0 d1 : D) (e0 e1 : E) : Type 0 where
+pub record SameNames {A B C D E F : Type 0} (a0 a1 : A) (b0 b1 : B) (c0 c1 : C) (d0 d1 : D) (e0 e1 : E) (f0 f1 : F) : Type 0 where
   pub translator : a0 ≡ a1
   pub memory : b0 ≡ b1
   pub bus : c0 ≡ c1
   pub apics : d0 ≡ d1
   pub steps : e0 ≡ e1
+  pub outward : f0 ≡ f1

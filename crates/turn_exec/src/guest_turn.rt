@@ -6,10 +6,11 @@ ghost use Rattle.svm_model.specs.Turn.Play.{frames_after, heard, is_refused, num
 ghost use Rattle.svm_model.specs.declared.names.RunEnd.{RunEnd as RunEndRecord};
 ghost use Rattle.svm_model.specs.declared.page_tables.Outer.TheVariants.{Direct};
 ghost use Rattle.svm_model.specs.declared.turns.Translated.{Translated as TranslatedRecord};
+ghost use Rattle.turn_exec.specs.Begun.{nothing};
 ghost use Rattle.turn_exec.specs.Follows.{AreInside, IsInside};
 ghost use Rattle.turn_exec.specs.Plays.{board_with, CallsFrom, Plays, refused_at, SameNames};
 
-use crate::apics::Apics;
+use crate::apics::{Apics, answer_to};
 use crate::frames::frame_of;
 use crate::parts::{read_part, translate_part, write_part};
 use crate::reach::Reach;
@@ -19,68 +20,88 @@ use host_memory::{GuestWindow, HostMemory, Steps};
 use port_bus::Ports;
 use std::sync::ledger::Ledger;
 use svm_model::{
-    ApicAnswer, Flush, NoMemory, Part, PortWrite, RunEnd, Space, Translated, Translation,
+    ApicAnswer, Flush, Ipi, NoMemory, Part, PortWrite, RunEnd, Space, Translated, Translation,
 };
+
+/// What came of a turn's outward calls: how many were granted, the refusal by which the turn was cut off, the write to a port
+/// that was refused, and the interprocessor interrupt that was sent.
+#[derive(Clone, Copy)]
+pub struct Outward {
+    pub calls: u64,
+    pub refused: Option<RunEnd>,
+    pub denied: Option<PortWrite>,
+    pub sent: Option<Ipi>,
+}
+
+impl Outward {
+    /// Nothing, as at the start of a turn.
+    pub fn new() -> Outward
+        ensures { result ≡ nothing }
+    {
+        Outward {
+            calls: 0,
+            refused: None,
+            denied: None,
+            sent: None,
+        }
+    }
+}
 
 /// What a turn reaches of its guest: the parts that it has translated, and where they are; and its outward calls, of which
 /// those that were granted are counted.
 #[derive(Drop)]
-pub struct GuestTurn<'t, 'm, 'b, 'a, 's, T: Translator, B: Ports, A: Apics, L: Ledger> {
+pub struct GuestTurn<'t, 'm, 'b, 'a, 's, 'o, T: Translator, B: Ports, A: Apics, L: Ledger> {
     pub translator: &'t mut T,
     pub memory: &'m mut HostMemory,
     pub bus: &'b mut B,
     pub apics: &'a mut A,
     pub steps: &'s mut Steps<L>,
+    pub outward: &'o mut Outward,
     pub window: GuestWindow,
     pub space: Space,
     pub frames: ArrayVec<u64, 18>,
     pub spent: u64,
-    pub calls: u64,
-    pub refused: Option<RunEnd>,
-    pub denied: Option<PortWrite>,
     pub ghost within: { IsWithin window memory.now.bytes },
     pub ghost pages: { window.size % 4096 ≡ 0 },
     pub ghost some: { 4096 ≤ window.size },
     pub ghost inside: { AreInside window.size frames.items },
     pub ghost direct: { space.outer ≡ Direct },
     /// Where no notice is refused, a refusal is that of a write to a port.
-    pub ghost out: { T.refuses ≡ false → is_some refused ≡ is_some denied },
+    pub ghost out: { T.refuses ≡ false → is_some outward.now.refused ≡ is_some outward.now.denied },
     /// A call that is granted is one that may cost reads.
-    pub ghost few: { calls ≤ spent },
+    pub ghost few: { outward.now.calls ≤ spent },
     /// A translation may cost a read at least.
     pub ghost some_cost: { 1 ≤ T.cost },
 }
 
 /// What is heard of a part whose notice may be refused: then, and behind a refusal, as if its guest ended there.
 #[tactic(auto, using(port_bus::proofs::Counts::counts, crate::proofs::Calls::calls))]
-fn hear(
-    found: Result<Translated, NoMemory>,
-    calls: &mut u64,
-    refused: &mut Option<RunEnd>,
-) -> Translated
-    requires room { calls.old ≤ 1_000_000 }
-    ensures heard { (before after : List (Option ℕ)) (last_refused : Option RunEndRecord) (last_calls : ℕ) (place : TranslatedRecord) → CallsFrom refused.new calls.new before last_refused last_calls after →
-        IfOk found (λ there. there ≡ place) → heard (is_refused (refused_at last_refused last_calls) calls.old) place ≡ result }
-    ensures counted { (before after : List (Option ℕ)) (last_refused : Option RunEndRecord) (last_calls : ℕ) → CallsFrom refused.new calls.new before last_refused last_calls after →
-        (if is_refused (refused_at last_refused last_calls) calls.old then calls.old else calls.old + 1) ≡ calls.new }
-    ensures cut { (before after : List (Option ℕ)) (last_refused : Option RunEndRecord) (last_calls : ℕ) → CallsFrom refused.new calls.new before last_refused last_calls after →
-        (is_refused (refused_at last_refused last_calls) calls.old || is_some refused.old) ≡ is_some refused.new }
-    ensures calls { (before after : List (Option ℕ)) (last_refused : Option RunEndRecord) (last_calls : ℕ) → CallsFrom refused.new calls.new before last_refused last_calls after →
-        CallsFrom refused.old calls.old before last_refused last_calls after }
+fn hear(found: Result<Translated, NoMemory>, outward: &mut Outward) -> Translated
+    requires room { outward.old.calls ≤ 1_000_000 }
+    ensures heard { (before after : List (Option ℕ)) (last_refused : Option RunEndRecord) (last_calls : ℕ) (place : TranslatedRecord) → CallsFrom outward.new.refused outward.new.calls before last_refused last_calls after →
+        IfOk found (λ there. there ≡ place) → heard (is_refused (refused_at last_refused last_calls) outward.old.calls) place ≡ result }
+    ensures counted { (before after : List (Option ℕ)) (last_refused : Option RunEndRecord) (last_calls : ℕ) → CallsFrom outward.new.refused outward.new.calls before last_refused last_calls after →
+        (if is_refused (refused_at last_refused last_calls) outward.old.calls then outward.old.calls else outward.old.calls + 1) ≡ outward.new.calls }
+    ensures cut { (before after : List (Option ℕ)) (last_refused : Option RunEndRecord) (last_calls : ℕ) → CallsFrom outward.new.refused outward.new.calls before last_refused last_calls after →
+        (is_refused (refused_at last_refused last_calls) outward.old.calls || is_some outward.old.refused) ≡ is_some outward.new.refused }
+    ensures calls { (before after : List (Option ℕ)) (last_refused : Option RunEndRecord) (last_calls : ℕ) → CallsFrom outward.new.refused outward.new.calls before last_refused last_calls after →
+        CallsFrom outward.old.refused outward.old.calls before last_refused last_calls after }
     ensures inside { (size : ℕ) → IfOk found (λ there. IsInside size there) → IsInside size result }
-    ensures few { calls.new ≤ calls.old + 1 }
-    ensures kept { (refuses : Bool) → OnErr found (refuses ≡ true) → refuses ≡ false → is_some refused.new ≡ is_some refused.old }
+    ensures few { outward.new.calls ≤ outward.old.calls + 1 }
+    ensures denied { outward.new.denied ≡ outward.old.denied }
+    ensures sent { outward.new.sent ≡ outward.old.sent }
+    ensures kept { (refuses : Bool) → OnErr found (refuses ≡ true) → refuses ≡ false → is_some outward.new.refused ≡ is_some outward.old.refused }
 {
-    if refused.is_some() {
+    if outward.refused.is_some() {
         return Translated::Outside { address: 0 };
     }
     match found {
         Ok(found) => {
-            *calls += 1;
+            outward.calls += 1;
             found
         }
         Err(_) => {
-            *refused = Some(RunEnd::NoMemory);
+            outward.refused = Some(RunEnd::NoMemory);
             Translated::Outside { address: 0 }
         }
     }
@@ -111,14 +132,14 @@ fn numbered(number: u8, found: Translated) -> Translation
     }
 }
 
-impl<'t, 'm, 'b, 'a, 's, T: Translator, B: Ports, A: Apics, L: Ledger> Reach
-    for GuestTurn<'t, 'm, 'b, 'a, 's, T, B, A, L> {
+impl<'t, 'm, 'b, 'a, 's, 'o, T: Translator, B: Ports, A: Apics, L: Ledger> Reach
+    for GuestTurn<'t, 'm, 'b, 'a, 's, 'o, T, B, A, L> {
     ghost plays = { λ m course last vcpu stepped.
-        SameNames m.translator.ghost_name last.translator.ghost_name m.memory.ghost_name last.memory.ghost_name m.bus.ghost_name last.bus.ghost_name m.apics.ghost_name last.apics.ghost_name m.steps.ghost_name last.steps.ghost_name
+        SameNames m.translator.ghost_name last.translator.ghost_name m.memory.ghost_name last.memory.ghost_name m.bus.ghost_name last.bus.ghost_name m.apics.ghost_name last.apics.ghost_name m.steps.ghost_name last.steps.ghost_name m.outward.ghost_name last.outward.ghost_name
         × (((last.steps.now + T.cost * m.spent ≤ m.steps.now + T.cost * last.spent) × (m.steps.now ≤ last.steps.now))
-        × (CallsFrom m.refused m.calls (B.faults m.bus.now) last.refused last.calls (B.faults last.bus.now)
-        × Plays T.stands T.copies T.rule m.space m.window m.translator.now m.memory.now.bytes (board_with (B.bus m.bus.now) (A.apic m.apics.now) (A.sent m.apics.now) m.calls m.refused m.denied) m.frames.items course
-        last.translator.now last.memory.now.bytes (board_with (B.bus last.bus.now) (A.apic last.apics.now) (A.sent last.apics.now) last.calls last.refused last.denied) last.refused vcpu stepped)) };
+        × (CallsFrom m.outward.now.refused m.outward.now.calls (B.faults m.bus.now) last.outward.now.refused last.outward.now.calls (B.faults last.bus.now)
+        × Plays T.stands T.copies T.rule m.space m.window m.translator.now m.memory.now.bytes (board_with (B.bus m.bus.now) (A.apic m.apics.now) m.outward.now.sent m.outward.now.calls m.outward.now.refused m.outward.now.denied) m.frames.items course
+        last.translator.now last.memory.now.bytes (board_with (B.bus last.bus.now) (A.apic last.apics.now) last.outward.now.sent last.outward.now.calls last.outward.now.refused last.outward.now.denied) last.outward.now.refused vcpu stepped)) };
 
     ghost spent = { λ m. m.spent };
 
@@ -139,7 +160,7 @@ impl<'t, 'm, 'b, 'a, 's, T: Translator, B: Ports, A: Apics, L: Ledger> Reach
             part,
             self.steps,
         );
-        let found = hear(found, &mut self.calls, &mut self.refused);
+        let found = hear(found, self.outward);
         let number = self.frames.len() as u8;
         note(found, &mut self.frames);
         numbered(number, found)
@@ -162,16 +183,16 @@ impl<'t, 'm, 'b, 'a, 's, T: Translator, B: Ports, A: Apics, L: Ledger> Reach
     fn flush(&mut self, flush: Flush) -> bool {
         self.spent += 1;
         let dropped = self.translator.flush(flush);
-        if self.refused.is_some() {
+        if self.outward.refused.is_some() {
             return false;
         }
         match dropped {
             Ok(()) => {
-                self.calls += 1;
+                self.outward.calls += 1;
                 true
             }
             Err(_) => {
-                self.refused = Some(RunEnd::NoMemory);
+                self.outward.refused = Some(RunEnd::NoMemory);
                 false
             }
         }
@@ -185,17 +206,17 @@ impl<'t, 'm, 'b, 'a, 's, T: Translator, B: Ports, A: Apics, L: Ledger> Reach
     #[tactic(auto, using(svm_model::proofs::WindowLemmas::windows, crate::proofs::Calls::calls, crate::proofs::Costs::costs))]
     fn output(&mut self, write: &PortWrite) -> bool {
         self.spent += 1;
-        if self.refused.is_some() {
+        if self.outward.refused.is_some() {
             return false;
         }
         match self.bus.write_port(write) {
             Ok(()) => {
-                self.calls += 1;
+                self.outward.calls += 1;
                 true
             }
             Err(end) => {
-                self.refused = Some(end);
-                self.denied = Some(*write);
+                self.outward.refused = Some(end);
+                self.outward.denied = Some(*write);
                 false
             }
         }
@@ -209,13 +230,10 @@ impl<'t, 'm, 'b, 'a, 's, T: Translator, B: Ports, A: Apics, L: Ledger> Reach
         }
     }
 
-    #[tactic(auto, using(svm_model::proofs::WindowLemmas::windows, port_bus::proofs::Counts::counts, crate::proofs::Calls::written))]
+    #[tactic(auto, using(svm_model::proofs::WindowLemmas::windows, port_bus::proofs::Counts::counts))]
     fn apic_write(&mut self, offset: u16, value: u32, event: u32) -> ApicAnswer {
-        if self.apics.write(offset, value, event) {
-            ApicAnswer::Stored
-        } else {
-            ApicAnswer::Unoffered
-        }
+        let written = self.apics.write(offset, value, event);
+        answer_to(written, &mut self.outward.sent)
     }
 
     #[tactic(auto, using(svm_model::proofs::WindowLemmas::windows, port_bus::proofs::Counts::counts))]

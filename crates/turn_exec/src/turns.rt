@@ -5,11 +5,12 @@ ghost use Rattle.svm_model.specs.Memory.Bytes.{IsWithin, SameOutside, guest_of};
 ghost use Rattle.svm_model.specs.Turn.Course.{Told};
 ghost use Rattle.svm_model.specs.Turn.Play.{play};
 ghost use Rattle.svm_model.specs.Turn.Work.{turn_course};
+ghost use Rattle.turn_exec.specs.Begun.{nothing};
 ghost use Rattle.turn_exec.specs.Follows.{Ensues};
 ghost use Rattle.turn_exec.specs.Plays.{board_with, IsBlamed, refused_at};
 
 use crate::apics::Apics;
-use crate::guest_turn::GuestTurn;
+use crate::guest_turn::{GuestTurn, Outward};
 use crate::translator::Translator;
 use crate::under::Under;
 use crate::works::turn;
@@ -18,20 +19,11 @@ use host_memory::{GuestWindow, HostMemory, Steps};
 use port_bus::Ports;
 use row_table::KeptRows;
 use std::sync::ledger::Ledger;
-use svm_model::{Facts, Outer, PortWrite, RunEnd, Space, Stepped, Vcpu};
+use svm_model::{Facts, Outer, Space, Stepped, Vcpu};
 
-/// How a turn came out, or the refusal by which it was cut off, with how many outward calls were granted.
-#[derive(Clone, Copy)]
-pub struct TurnEnd {
-    pub stepped: Stepped,
-    pub refused: Option<RunEnd>,
-    pub calls: u64,
-    /// The write to a port that was refused, where one was.
-    pub denied: Option<PortWrite>,
-}
-
-/// The turn of a vcpu over its guest's memory, where its APIC gives this vector. Where an outward call is refused, memory,
-/// what stands about the vcpu and the vcpu are those that the turn has then reached. It makes as many reads at most as 224
+/// The turn of a vcpu over its guest's memory, where its APIC gives this vector: how it came out, and in `outward`, what
+/// came of its outward calls. Where one is refused, memory, what stands about the vcpu and the vcpu are those
+/// that the turn has then reached. It makes as many reads at most as 224
 /// translations cost.
 pub fn take_turn<T: Translator, B: Ports, A: Apics, C: Under, L: Ledger>(
     translator: &mut T,
@@ -46,21 +38,23 @@ pub fn take_turn<T: Translator, B: Ports, A: Apics, C: Under, L: Ledger>(
     vcpu: &mut Vcpu,
     interrupt: Option<u8>,
     steps: &mut Steps<L>,
-) -> TurnEnd
+    outward: &mut Outward,
+) -> Stepped
     requires window { IsWithin window memory.old.bytes }
     requires pages { window.size % 4096 ≡ 0 }
     requires some { 4096 ≤ window.size }
     requires direct { space.now.outer ≡ Outer.Direct }
     requires alone { C.control control.now ≡ None }
     requires cost { 1 ≤ T.cost }
+    requires begun { outward.old ≡ nothing }
     ensures follows { (history : List Told) → T.stands translator.old history →
-        Ensues T.stands T.copies T.rule (play (record { space = space.now; refused = refused_at result.refused result.calls }) (board_with (B.bus bus.old) (A.apic apics.old) (A.sent apics.old) 0 None None) (guest_of window memory.old.bytes) []
+        Ensues T.stands T.copies T.rule (play (record { space = space.now; refused = refused_at outward.new.refused outward.new.calls }) (board_with (B.bus bus.old) (A.apic apics.old) None 0 None None) (guest_of window memory.old.bytes) []
         (turn_course (C.control control.now) facts.now vcpu.old interrupt))
-        history translator.new (guest_of window memory.new.bytes) (board_with (B.bus bus.new) (A.apic apics.new) (A.sent apics.new) result.calls result.refused result.denied) vcpu.new result.stepped }
+        history translator.new (guest_of window memory.new.bytes) (board_with (B.bus bus.new) (A.apic apics.new) outward.new.sent outward.new.calls outward.new.refused outward.new.denied) vcpu.new result }
     ensures others { SameOutside window memory.old.bytes memory.new.bytes }
     ensures none_fell { NoneFell (B.faults bus.old) (B.faults bus.new) }
-    ensures out { T.refuses ≡ false → is_some result.refused ≡ is_some result.denied }
-    ensures blamed { IsBlamed result.refused (B.faults bus.old) (B.faults bus.new) }
+    ensures out { T.refuses ≡ false → is_some outward.new.refused ≡ is_some outward.new.denied }
+    ensures blamed { IsBlamed outward.new.refused (B.faults bus.old) (B.faults bus.new) }
     ensures steps { steps.new ≤ steps.old + T.cost * 224 }
     ensures later { steps.old ≤ steps.new }
 {
@@ -70,19 +64,11 @@ pub fn take_turn<T: Translator, B: Ports, A: Apics, C: Under, L: Ledger>(
         bus,
         apics,
         steps,
+        outward,
         window,
         space: *space,
         frames: ArrayVec::new(),
         spent: 0,
-        calls: 0,
-        refused: None,
-        denied: None,
     };
-    let stepped = turn(&mut reach, control, rows, facts, vcpu, interrupt);
-    TurnEnd {
-        stepped,
-        refused: reach.refused,
-        calls: reach.calls,
-        denied: reach.denied,
-    }
+    turn(&mut reach, control, rows, facts, vcpu, interrupt)
 }

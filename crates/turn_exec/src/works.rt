@@ -7,6 +7,7 @@ ghost use Rattle.svm_model.specs.Turn.Instruction.{instruction as instruction_co
 ghost use Rattle.svm_model.specs.Turn.Work.{course_of, done as done_course, inject as inject_course, next_work as first_work, take_interrupt as interrupt_course, take_nmi as nmi_course, take_virtual as virtual_course, taken_by, turn_course};
 ghost use Rattle.svm_model.specs.declared.vcpus.Inside.{Inside as InsideRecord};
 ghost use Rattle.turn_exec.specs.Goes.{Goes};
+ghost use Rattle.turn_exec.specs.Takes.{takes};
 
 use crate::faults::{deliver_event, stopped};
 use crate::fetch::instruction;
@@ -22,6 +23,14 @@ fn interrupt_flag(registers: &Registers) -> bool
     registers.rflags & 0x200 == 0x200
 }
 
+/// Whether a vcpu takes the interrupts of its APIC now: GIF and IF are set, and no interrupt shadow holds them off (volume 2,
+/// 'Global Interrupt Flag, STGI and CLGI Instructions'; volume 3, 'STI').
+pub fn takes_interrupts(vcpu: &Vcpu) -> bool
+    ensures { result ≡ takes vcpu.now }
+{
+    vcpu.gif && !vcpu.registers.shadow && interrupt_flag(&vcpu.registers)
+}
+
 /// The first work that is due. Nothing is virtual where there is nothing that the turn is under.
 #[tactic(auto, unfolding(svm_model::specs::Turn::Work::next_work))]
 fn next_work<C: Under>(control: &C, vcpu: &Vcpu, interrupt: Option<u8>) -> Work
@@ -35,11 +44,7 @@ fn next_work<C: Under>(control: &C, vcpu: &Vcpu, interrupt: Option<u8>) -> Work
     if vcpu.nmi && vcpu.gif && !vcpu.nmi_blocked {
         return Work::Nmi;
     }
-    if interrupt.is_some()
-        && vcpu.gif
-        && !vcpu.registers.shadow
-        && interrupt_flag(&vcpu.registers)
-    {
+    if interrupt.is_some() && takes_interrupts(vcpu) {
         return Work::Interrupt;
     }
     if vcpu.halted {
@@ -160,7 +165,11 @@ fn execute<M: Reach, C: Under>(
     ensures goes { (next : CameRecord → Course) → Goes M.plays reach.old (instruction_course (C.control control.now) facts.now vcpu.old (finished_course (C.control control.now) vcpu.old next)) reach.new (next (came_to vcpu.new result)) }
     ensures spent { M.spent reach.new ≤ M.spent reach.old + 224 }
 {
-    match instruction(reach, control, rows, facts, vcpu) {
+    let mut otherwise = Ok(Stepped::Went);
+    if instruction(reach, control, rows, facts, vcpu, &mut otherwise) {
+        return Stepped::Went;
+    }
+    match otherwise {
         Ok(stepped) => stepped,
         Err(stop) => stopped(reach, control, vcpu, stop),
     }

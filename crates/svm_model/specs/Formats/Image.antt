@@ -1,4 +1,4 @@
--- The image, version 1: what its bytes say, or the first place where they are refused. Numbers are little-endian.
+-- The image, versions 1 and 2: what its bytes say, or the first place where they are refused. Numbers are little-endian.
 use Rattle.std.specs.Prelude.{ℕ, List}
 use Rattle.svm_model.specs.declared.formats.ImageReason.{ImageReason}
 use Rattle.svm_model.specs.declared.register_file.Registers.{Registers}

@@ -1,11 +1,11 @@
--- What the bytes of an image say, version 1, or the first place where they are refused. Numbers are little-endian.
+-- What the bytes of an image say, versions 1 and 2, or the first place where they are refused. Numbers are little-endian.
 use Rattle.std.specs.Prelude.{◌≡◌, ℕ, IsTrue, ◌+◌, ◌*◌, ◌==◌, ◌&&◌, nat_lt, nat_le, suc, zero, List, [], ◌∷◌, if◌then◌else◌, Result, Ok, Err, length}
 use Rattle.std.specs.Int.{w8, w16, w32, w64}
 use Rattle.svm_model.specs.Memory.RegisterFile.{is_canonical}
 use Rattle.svm_model.specs.declared.formats.ImageReason.TheVariants.{TooLong, Version, Count, Range, Trailing}
 use Rattle.svm_model.specs.declared.register_file.Registers.{Registers}
 use Rattle.svm_model.specs.Formats.Image.{ImageSegment, ImageGuest, Image, ImageFault}
-use Rattle.svm_model.specs.Formats.ImageFields.{Source, ◌>>=◌, bytes_in, number_in, judged, bounded, zero_in, zeros_in, magic_in, is_root, are_flags}
+use Rattle.svm_model.specs.Formats.ImageFields.{Source, ◌>>=◌, bytes_in, number_in, judged, bounded, zero_in, zeros_in, magic_in, features_in, is_root, are_flags}
 use Rattle.svm_model.specs.Formats.ImageVcpus.{table_register, start_tr, Start, start_registers, vcpu_in}
 
 -- The address, the length, a zero and the bytes. Once the length is read, a segment that is empty or goes past the
@@ -43,16 +43,16 @@ guest_in s = do
 abbrev pub ended : {A : Type 0} → A → Source → Result A ImageFault
 ended x s = judged s Trailing (length s.rest == 0) x
 
--- the magic, the version, the numbers of guests and processors, a zero, and the guests
+-- the magic, the version, the numbers of guests and processors, the word of features, and the guests
 unfoldable pub image_in : Source → Result Image ImageFault
 image_in s = do
   magic ← magic_in s
-  version ← bounded w16 1 1 Version magic.1
+  version ← bounded w16 1 2 Version magic.1
   count ← bounded w8 1 4 Count version.1
   cpus ← bounded w8 1 8 Count count.1
-  pad ← zero_in w32 cpus.1
-  guests ← many_in guest_in count.0 pad.1
-  ended (record { version = version.0; features = 0; cpus = cpus.0; guests = guests.0 }) guests.1
+  features ← features_in version.0 cpus.1
+  guests ← many_in guest_in count.0 features.1
+  ended (record { version = version.0; features = features.0; cpus = cpus.0; guests = guests.0 }) guests.1
 
 -- the most bytes that an image has
 abbrev pub image_limit : ℕ

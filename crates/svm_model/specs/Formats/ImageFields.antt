@@ -1,11 +1,11 @@
 -- The fields of an image, in the order of its bytes. Each gives its value and what is left after it.
 use Rattle.std.specs.Prelude.{ℕ, ◌+◌, ◌^◌, ◌==◌, ◌&&◌, nat_lt, nat_le, List, Bool, if◌then◌else◌, Result, Ok, Err, length, take, drop, codes, bit_and}
-use Rattle.std.specs.Int.{Width, w64, byte_len, from_le_bytes}
+use Rattle.std.specs.Int.{Width, w32, w64, byte_len, from_le_bytes}
 use Rattle.std.specs.List.{list_all}
 use Rattle.std.specs.Str.{bytes_eq}
 use Rattle.svm_model.specs.Memory.RegisterFile.{is_canonical}
 use Rattle.svm_model.specs.declared.formats.ImageReason.{ImageReason}
-use Rattle.svm_model.specs.declared.formats.ImageReason.TheVariants.{Short, Magic, Zero, Register}
+use Rattle.svm_model.specs.declared.formats.ImageReason.TheVariants.{Short, Magic, Zero, Feature, Register}
 use Rattle.svm_model.specs.Formats.Image.{ImageFault}
 
 -- what is left of the bytes, and the place where it begins
@@ -47,6 +47,10 @@ zeros_in s = bytes_in 3 s >>= λ bytes. judged s Zero (list_all (λ b. b == 0) b
 
 abbrev pub magic_in : Source → Result (List ℕ × Source) ImageFault
 magic_in s = bytes_in 8 s >>= λ bytes. judged s Magic (bytes_eq bytes.0 (codes "SVMIMAGE")) bytes
+
+-- the word of features, which is 0 in version 1; version 2 offers bit 0, FlushByAsid
+abbrev pub features_in : ℕ → Source → Result (ℕ × Source) ImageFault
+features_in version s = if version == 1 then zero_in w32 s else bounded w32 0 1 Feature s
 
 -- CR3: bits 63:40 are 0
 abbrev pub is_root : ℕ → Bool

@@ -19,8 +19,10 @@ pub record IsLawfulGuest (guest : ImageGuest) : Type 0 where
   pub segments : All (IsLawfulSegment guest.pages) guest.segments
 
 pub record IsLawfulImage (image : Image) : Type 0 where
-  pub version : image.version ≡ 1
-  pub features : image.features ≡ 0
+  pub first_version : 1 ≤ image.version
+  pub last_version : image.version ≤ 2
+  pub features : image.features ≤ 1
+  pub none_in_first : image.version ≡ 1 → image.features ≡ 0
   pub some_cpus : 1 ≤ image.cpus
   pub most_cpus : image.cpus ≤ 8
   pub some_guests : 1 ≤ length image.guests

@@ -10,7 +10,7 @@ pub loop-number-preserved : goal.loop-number-preserved
 loop-number-preserved g c =
     let before = c.loop-number.invariant in
     let came = c.in-Ok.ensures in
-    let there = sym c.event_at.ensures.event ∙ c.in-Some.is in
+    let there = sym c.event_near.ensures.event ∙ c.in-Some.is in
     record {
       so_far =
           led_next _ _ (events_of c.args.cpus c.args.script.now) c.loop-number.number c.in-Some.event _ before.so_far there
@@ -29,4 +29,4 @@ loop-number-preserved g c =
 pub returns-in-Err-clause-ended : goal.returns-in-Err-clause-ended
 returns-in-Err-clause-ended g c =
     let before = c.loop-number.invariant in
-    ends-here c.in-Err.fault _ _ _ _ _ (events_of c.args.cpus c.args.script.now) c.loop-number.number c.in-Some.event _ _ _ before.so_far (sym c.event_at.ensures.event ∙ c.in-Some.is) before.printed c.in-Err.ensures.ended
+    ends-here c.in-Err.fault _ _ _ _ _ (events_of c.args.cpus c.args.script.now) c.loop-number.number c.in-Some.event _ _ _ before.so_far (sym c.event_near.ensures.event ∙ c.in-Some.is) before.printed c.in-Err.ensures.ended
