@@ -1,0 +1,3 @@
+pub mod MovedLemmas
+pub mod SavedLemmas
+pub mod StoredLemmas

@@ -1,0 +1,39 @@
+// The modes that are not offered.
+ghost use Rattle.std.specs.Prelude.{◌≡◌};
+ghost use Rattle.svm_model.specs.Svm.VmcbRules.{is_other_mode as other_mode, unoffered_mode as mode_of};
+
+use crate::bits::{field_bit, has_some};
+use svm_model::Field::*;
+use vmcb_layout::Fields;
+
+/// Another mode than 64-bit mode with paging, or alignment checks, single steps or virtual-8086 mode.
+fn is_other_mode(v: &Fields) -> bool
+    ensures { result ≡ other_mode v.now }
+{
+    let is_active = field_bit(Efer, 8, v) && field_bit(Efer, 10, v);
+    let is_paged = field_bit(Cr0, 31, v) && field_bit(Cr0, 0, v) && field_bit(Cr4, 5, v);
+    let is_64_bit = is_active && is_paged && field_bit(CsAttributes, 9, v);
+    !is_64_bit
+        || field_bit(CsAttributes, 10, v)
+        || field_bit(Cr0, 18, v)
+        || has_some(v.value(Rflags), 0x6_0100)
+}
+
+/// The number of the first mode that a legal VMCB asks for and that is not offered: 4, another mode than 64-bit mode with
+/// paging, or CR0.AM, RFLAGS.TF, VM or AC; 6, breakpoints in DR7; 8, the selective intercept of CR0 (volume 2, 'VMCB
+/// Layout'). None where all that it asks for is offered.
+#[tactic(auto, unfolding(svm_model::specs::Svm::VmcbRules::unoffered_mode))]
+pub fn unoffered_mode(fields: &Fields) -> Option<u8>
+    ensures { result ≡ mode_of fields.now }
+{
+    if is_other_mode(fields) {
+        return Some(4);
+    }
+    if has_some(fields.value(Dr7), 0x20ff) {
+        return Some(6);
+    }
+    if field_bit(InterceptWordC, 5, fields) {
+        return Some(8);
+    }
+    None
+}
