@@ -1,1 +1,1 @@
-pub mod HighBits
+pub mod FirstByte

@@ -91,7 +91,7 @@ fn read_map<L: Ledger>(
 }
 
 /// A byte of a map, by one read.
-#[tactic(auto, using(svm_model::proofs::WindowLemmas::windows, crate::proofs::HighBits::first_byte))]
+#[tactic(auto, using(svm_model::proofs::WindowLemmas::windows, crate::proofs::FirstByte::first_byte))]
 fn read_byte<L: Ledger>(
     memory: &HostMemory,
     window: GuestWindow,

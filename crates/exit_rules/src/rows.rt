@@ -2,23 +2,9 @@
 ghost use Rattle.std.specs.Prelude.{◌≡◌, ◌≤◌};
 ghost use Rattle.svm_model.specs.Instructions.Guards.{guard_of};
 ghost use Rattle.svm_model.specs.Svm.Intercepts.{exit_by as exit_of, exit_where as exit_if, register_bit as bit_of_register, row_exit};
-ghost use Rattle.svm_model.specs.Svm.Vmcb.{field_bit as bit_in};
 
 use svm_model::{Exit, Field, Form, Intercept, Op, Row};
 use vmcb_layout::Fields;
-
-/// Whether a bit of a field is set; none is above bit 63.
-#[tactic(auto, using(crate::proofs::HighBits::high_bits))]
-pub fn field_bit(fields: &Fields, field: Field, number: u16) -> bool
-    ensures { result ≡ bit_in field number fields.now }
-{
-    let value = fields.value(field);
-    if number >= 64 {
-        return false;
-    }
-    let bit = 1 << number;
-    value & bit == bit
-}
 
 /// The intercept of a row, by the table of the manual.
 #[tactic(auto, unfolding(svm_model::specs::Instructions::Guards::guard_of))]
@@ -91,19 +77,19 @@ pub fn by_row(fields: &Fields, row: &Row, next_rip: u64) -> Option<Exit>
     match intercept(row.op) {
         Intercept::Never | Intercept::Ports | Intercept::Msrs => None,
         Intercept::WordC { number } => exit_where(
-            field_bit(fields, Field::InterceptWordC, u16::from(number)),
+            fields.has_bit(Field::InterceptWordC, u16::from(number)),
             0x60 + u64::from(number),
             next_rip,
         ),
         Intercept::Word10 { number } => exit_where(
-            field_bit(fields, Field::InterceptWord10, u16::from(number)),
+            fields.has_bit(Field::InterceptWord10, u16::from(number)),
             0x80 + u64::from(number),
             next_rip,
         ),
         Intercept::Control => {
             let bit = register_bit(row);
             exit_where(
-                field_bit(fields, Field::CrIntercepts, bit),
+                fields.has_bit(Field::CrIntercepts, bit),
                 u64::from(bit),
                 next_rip,
             )
@@ -111,7 +97,7 @@ pub fn by_row(fields: &Fields, row: &Row, next_rip: u64) -> Option<Exit>
         Intercept::Debug => {
             let bit = register_bit(row);
             exit_where(
-                field_bit(fields, Field::DrIntercepts, bit),
+                fields.has_bit(Field::DrIntercepts, bit),
                 0x20 + u64::from(bit),
                 next_rip,
             )

@@ -2,7 +2,6 @@
 ghost use Rattle.std.specs.Prelude.{◌≡◌};
 ghost use Rattle.svm_model.specs.Svm.Intercepts.{exception_exit as exit_of_exception, is_exception as exception_test, trap_exit};
 
-use crate::rows::field_bit;
 use svm_model::{Cause, Exit, Field, Trap};
 use vmcb_layout::Fields;
 
@@ -44,7 +43,7 @@ fn exception_exit(trap: &Trap, next_rip: u64) -> Exit
 pub fn by_trap(fields: &Fields, trap: &Trap, next_rip: u64) -> Option<Exit>
     ensures { result ≡ trap_exit fields.now trap.now next_rip }
 {
-    if is_exception(trap) && field_bit(fields, Field::ExceptionIntercepts, u16::from(trap.vector)) {
+    if is_exception(trap) && fields.has_bit(Field::ExceptionIntercepts, u16::from(trap.vector)) {
         Some(exception_exit(trap, next_rip))
     } else {
         None

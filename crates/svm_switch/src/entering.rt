@@ -1,6 +1,6 @@
 // What VMRUN keeps and loads.
 ghost use Rattle.std.specs.Prelude.{◌≡◌, if◌then◌else◌};
-ghost use Rattle.svm_model.specs.Svm.Vmcb.{field_bit as bit_of_field, has_nested_paging as nested_paging, value as value_in};
+ghost use Rattle.svm_model.specs.Svm.Vmcb.{has_nested_paging as nested_paging, value as value_in};
 ghost use Rattle.svm_model.specs.Svm.Vmrun.{kept_of, loaded as loaded_registers};
 
 use svm_model::{Field, Kept, Registers};
@@ -10,14 +10,7 @@ use vmcb_layout::Fields;
 pub(crate) fn has_nested_paging(fields: &Fields) -> bool
     ensures { result ≡ nested_paging fields.now }
 {
-    fields.value(Field::NpEnable) & 1 == 1
-}
-
-/// Whether bit 0 of a field is set.
-fn lowest_bit(field: Field, fields: &Fields) -> bool
-    ensures { result ≡ bit_of_field field 0 fields.now }
-{
-    fields.value(field) & 1 == 1
+    fields.has_bit(Field::NpEnable, 0)
 }
 
 /// PAT is loaded only with nested paging.
@@ -60,7 +53,7 @@ pub fn enter(registers: &mut Registers, fields: &Fields, vmcb: u64, next_rip: u6
     registers.idtr = fields.segment(Field::IdtrSelector);
     registers.cpl = fields.value(Field::Cpl) as u8;
     registers.pat = loaded_pat(fields, registers.pat);
-    registers.shadow = lowest_bit(Field::Shadow, fields);
+    registers.shadow = fields.has_bit(Field::Shadow, 0);
     Kept {
         registers: kept,
         vmcb,

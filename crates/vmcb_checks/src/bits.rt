@@ -1,7 +1,6 @@
 // Bits of words and of fields.
 ghost use Rattle.std.specs.Prelude.{◌≡◌, ◌<◌};
 ghost use Rattle.svm_model.specs.Memory.Bits.{bit as bit_of, has_some as some_common};
-ghost use Rattle.svm_model.specs.Svm.Vmcb.{field_bit as bit_of_field};
 ghost use Rattle.svm_model.specs.Svm.VmcbRules.{exceeds as exceeds_bits, is_past_width as past_width};
 
 use svm_model::Field;
@@ -13,14 +12,6 @@ pub(crate) fn bit(number: u8, word: u64) -> bool
     ensures { result ≡ bit_of number word }
 {
     word & (1 << number) == 1 << number
-}
-
-/// Whether the bit of this number is set in a field.
-pub(crate) fn field_bit(field: Field, number: u8, fields: &Fields) -> bool
-    requires { number < 64 }
-    ensures { result ≡ bit_of_field field number fields.now }
-{
-    bit(number, fields.value(field))
 }
 
 /// Whether a word has some of these bits.

@@ -2,7 +2,7 @@
 ghost use Rattle.std.specs.Prelude.{◌≡◌};
 ghost use Rattle.svm_model.specs.Svm.VmcbRules.{is_other_mode as other_mode, unoffered_mode as mode_of};
 
-use crate::bits::{field_bit, has_some};
+use crate::bits::has_some;
 use svm_model::Field::*;
 use vmcb_layout::Fields;
 
@@ -10,12 +10,12 @@ use vmcb_layout::Fields;
 fn is_other_mode(v: &Fields) -> bool
     ensures { result ≡ other_mode v.now }
 {
-    let is_active = field_bit(Efer, 8, v) && field_bit(Efer, 10, v);
-    let is_paged = field_bit(Cr0, 31, v) && field_bit(Cr0, 0, v) && field_bit(Cr4, 5, v);
-    let is_64_bit = is_active && is_paged && field_bit(CsAttributes, 9, v);
+    let is_active = v.has_bit(Efer, 8) && v.has_bit(Efer, 10);
+    let is_paged = v.has_bit(Cr0, 31) && v.has_bit(Cr0, 0) && v.has_bit(Cr4, 5);
+    let is_64_bit = is_active && is_paged && v.has_bit(CsAttributes, 9);
     !is_64_bit
-        || field_bit(CsAttributes, 10, v)
-        || field_bit(Cr0, 18, v)
+        || v.has_bit(CsAttributes, 10)
+        || v.has_bit(Cr0, 18)
         || has_some(v.value(Rflags), 0x6_0100)
 }
 
@@ -32,7 +32,7 @@ pub fn unoffered_mode(fields: &Fields) -> Option<u8>
     if has_some(fields.value(Dr7), 0x20ff) {
         return Some(6);
     }
-    if field_bit(InterceptWordC, 5, fields) {
+    if fields.has_bit(InterceptWordC, 5) {
         return Some(8);
     }
     None

@@ -3,7 +3,7 @@ ghost use Rattle.std.specs.Prelude.{◌≡◌};
 ghost use Rattle.svm_model.specs.Svm.VmcbRules.{broken, first_broken as least_broken, is_long as long_mode, offers_flush as flush_offered, rules as rules_of};
 ghost use Rattle.vmcb_checks.specs.Answers.{checked};
 
-use crate::bits::{exceeds, field_bit, is_past_width};
+use crate::bits::{exceeds, is_past_width};
 use crate::injection::is_illegal_injection;
 use svm_model::Field::*;
 use svm_model::{Checked, Offered};
@@ -13,7 +13,7 @@ use vmcb_layout::Fields;
 fn is_long(fields: &Fields) -> bool
     ensures { result ≡ long_mode fields.now }
 {
-    field_bit(Efer, 8, fields) && field_bit(Cr0, 31, fields)
+    fields.has_bit(Efer, 8) && fields.has_bit(Cr0, 31)
 }
 
 /// Whether a value of TLB_CONTROL is offered: 0 and 1 always, 3 and 7 where flushing by ASID is.
@@ -30,9 +30,9 @@ fn rules(v: &Fields, offered: Offered) -> [bool; 17]
 {
     [
         // 1 EFER.SVME is 0
-        !field_bit(Efer, 12, v),
+        !v.has_bit(Efer, 12),
         // 2 CR0.NW is 1 and CR0.CD is 0
-        field_bit(Cr0, 29, v) && !field_bit(Cr0, 30, v),
+        v.has_bit(Cr0, 29) && !v.has_bit(Cr0, 30),
         // 3 CR0 bits 63:32 are not 0
         exceeds(Cr0, 0xffff_ffff, v),
         // 4 CR3 bits 63:40 are not 0
@@ -46,13 +46,13 @@ fn rules(v: &Fields, offered: Offered) -> [bool; 17]
         // 8 DR7 bits 63:32 are not 0
         exceeds(Dr7, 0xffff_ffff, v),
         // 9 LME and PG are 1 and PAE is 0
-        is_long(v) && !field_bit(Cr4, 5, v),
+        is_long(v) && !v.has_bit(Cr4, 5),
         // 10 LME and PG are 1 and PE is 0
-        is_long(v) && !field_bit(Cr0, 0, v),
+        is_long(v) && !v.has_bit(Cr0, 0),
         // 11 LME, PG, PAE, CS.L and CS.D are all 1
-        is_long(v) && field_bit(Cr4, 5, v) && field_bit(CsAttributes, 9, v) && field_bit(CsAttributes, 10, v),
+        is_long(v) && v.has_bit(Cr4, 5) && v.has_bit(CsAttributes, 9) && v.has_bit(CsAttributes, 10),
         // 12 the VMRUN intercept is clear
-        !field_bit(InterceptWord10, 0, v),
+        !v.has_bit(InterceptWord10, 0),
         // 13 the ASID is 0
         v.value(Asid) == 0,
         // 14 the ASID is not offered

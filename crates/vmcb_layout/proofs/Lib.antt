@@ -1,3 +1,4 @@
+pub mod HighBits
 pub mod LayoutLemmas
 pub mod PutLaw
 pub mod RegisterParts

@@ -24,7 +24,7 @@ impl Model for Fields {
 }
 
 impl Fields {
-    ghost use Rattle.svm_model.specs.Svm.Vmcb.{segment_in, value as value_in, with_value};
+    ghost use Rattle.svm_model.specs.Svm.Vmcb.{field_bit, segment_in, value as value_in, with_value};
     ghost use Rattle.svm_model.specs.Svm.VmcbLayout.{number_of, place_at, place_of};
     ghost use Rattle.vmcb_layout.specs.Widths.{HasParts};
 
@@ -43,6 +43,19 @@ impl Fields {
         ensures fits { result < 256 ^ (place_of field).width }
     {
         self.values[number(field)]
+    }
+
+    /// Whether the bit of this number is set in a field; none is above bit 63.
+    #[tactic(auto, using(crate::proofs::HighBits::high_bits))]
+    pub fn has_bit(&self, field: Field, number: u16) -> bool
+        ensures { result ≡ field_bit field number self.now }
+    {
+        let value = self.value(field);
+        if number >= 64 {
+            return false;
+        }
+        let bit = 1 << number;
+        value & bit == bit
     }
 
     /// Gives one field another value, which fits its width; no other changes.

@@ -1,5 +1,5 @@
--- A word of 64 bits has no bit above them; and the first of some bytes.
-use Rattle.std.proofs.Common.{◌≡◌, ℕ, ◌≤◌, ◌<◌, ◌^◌, false, List, [], ◌∷◌, ◌++◌, length, slice_index, refl, arith}
+-- A word of 64 bits has no bit above them.
+use Rattle.std.proofs.Common.{◌≡◌, ℕ, ◌≤◌, ◌<◌, ◌^◌, false, arith}
 use Rattle.std.proofs.Math.Pow.{pow_mono}
 use Rattle.std.proofs.lemmas.Bool.{ne_eqb}
 use Rattle.std.proofs.lemmas.Nat.{and_le_l}
@@ -11,10 +11,3 @@ no_high number word high fits =
     ne_eqb (bit_and word (2 ^ number)) (2 ^ number) (λ same. omega (arith, same, and_le_l word (2 ^ number), pow_mono high, fits))
 
 pub ruleset high_bits = (no_high)
-
--- the first byte of one byte with others behind it
-pub front-byte : (bytes rest : List ℕ) → length bytes ≡ 1 → slice_index (bytes ++ rest) 0 ≡ slice_index bytes 0
-front-byte [] rest e = absurd (cc)
-front-byte (b ∷ bytes) rest e = refl
-
-pub ruleset first_byte = (front-byte)
