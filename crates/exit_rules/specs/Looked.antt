@@ -20,6 +20,11 @@ ports_looked memory fields port width =
 abbrev pub msr_bit : Bool → ℕ → ℕ
 msr_bit writes place = place + bits_where writes 1
 
+-- how many reads that takes: none where the MSR is outside the map
+abbrev pub msr_reads : Option ℕ → ℕ
+msr_reads None = 0
+msr_reads (Some place) = 1
+
 -- whether it is set, or the MSR is outside the map
 abbrev pub msr_looked : List ℕ → Fields → Bool → Option ℕ → Result Bool OutsideMemory
 msr_looked memory fields writes None = Ok true

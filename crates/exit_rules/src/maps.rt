@@ -3,7 +3,7 @@ ghost use Rattle.std.specs.Prelude.{◌≡◌, ◌⊎◌, ◌*◌, ◌+◌, ◌^
 ghost use Rattle.svm_model.specs.Memory.Bytes.{IsWithin, bytes_at, guest_of, value_of_bytes};
 ghost use Rattle.svm_model.specs.Svm.Intercepts.{map_base as base_of_map, msr_exit as exit_of_msr, msr_place as place_of_msr, port_exit as exit_of_port, ports_at, ports_count as count_of_ports};
 ghost use Rattle.svm_model.specs.declared.vmcbs.Field.{Field as FieldRecord};
-ghost use Rattle.exit_rules.specs.Looked.{msr_looked, ports_looked};
+ghost use Rattle.exit_rules.specs.Looked.{msr_looked, msr_reads, ports_looked};
 
 use host_memory::{GuestWindow, HostMemory, Steps};
 use std::sync::ledger::Ledger;
@@ -145,7 +145,8 @@ fn msr_place(msr: u32) -> Option<u16>
 }
 
 /// Whether the permission map of MSRs has the bit set of a read or a write of an MSR, by one read of its byte, or the MSR is
-/// outside the map (volume 2, 'MSR Intercepts'). Where that byte is outside the guest's memory, the answer is its address.
+/// outside the map, by none (volume 2, 'MSR Intercepts'). Where that byte is outside the guest's memory, the answer is its
+/// address.
 pub fn by_msr<L: Ledger>(
     memory: &HostMemory,
     window: GuestWindow,
@@ -156,7 +157,7 @@ pub fn by_msr<L: Ledger>(
 ) -> Result<bool, OutsideMemory>
     requires window { IsWithin window memory.now.bytes }
     ensures looked { result ≡ msr_looked (guest_of window memory.now.bytes) fields.now writes (place_of_msr msr) }
-    ensures steps { steps.new ≤ steps.old + 1 }
+    ensures steps { steps.new ≡ steps.old + msr_reads (place_of_msr msr) }
 {
     let Some(place) = msr_place(msr) else {
         return Ok(true);

@@ -45,11 +45,11 @@ fn rules(v: &Fields, offered: Offered) -> [bool; 17]
         exceeds(Dr6, 0xffff_ffff, v),
         // 8 DR7 bits 63:32 are not 0
         exceeds(Dr7, 0xffff_ffff, v),
-        // 9 LME and PG are 1 and PAE is 0
+        // 9 long mode with paging, without PAE
         is_long(v) && !v.has_bit(Cr4, 5),
-        // 10 LME and PG are 1 and PE is 0
+        // 10 long mode with paging, without PE
         is_long(v) && !v.has_bit(Cr0, 0),
-        // 11 LME, PG, PAE, CS.L and CS.D are all 1
+        // 11 long mode with paging and PAE, in a code segment with both L and D
         is_long(v) && v.has_bit(Cr4, 5) && v.has_bit(CsAttributes, 9) && v.has_bit(CsAttributes, 10),
         // 12 the VMRUN intercept is clear
         !v.has_bit(InterceptWord10, 0),
@@ -57,7 +57,7 @@ fn rules(v: &Fields, offered: Offered) -> [bool; 17]
         v.value(Asid) == 0,
         // 14 the ASID is not offered
         v.value(Asid) >= u64::from(offered.asids),
-        // 15 the IOPM of 12 KiB or the MSRPM of 8 KiB goes past the physical width
+        // 15 a permission map, 12 KiB for ports and 8 KiB for MSRs, ends past the physical width
         is_past_width(IopmBase, 0x3000, v) || is_past_width(MsrpmBase, 0x2000, v),
         // 16 EVENTINJ is illegal
         is_illegal_injection(v.value(EventInj)),

@@ -95,7 +95,7 @@ are_read-more memory vmcb n values value h e r = record {
   front = take_more_set values n value (omega (arith, h, r.size)) ∙ ap (λ xs. xs ++ value ∷ []) r.front ∙ ap (λ v. map (value_at memory vmcb) (take n layout) ++ v ∷ []) e ∙ sym (front-layout (value_at memory vmcb) n h);
 }
 
-abbrev fields_of : List ℕ → Fields
+abbrev pub fields_of : List ℕ → Fields
 fields_of values = record { values = values }
 
 -- all are read at last

@@ -10,12 +10,12 @@ use Rattle.std.proofs.lemmas.Nat.{from_le_bytes-to_le_bytes_8}
 use Rattle.std.proofs.lemmas.Bool.Decides.{nat_tests}
 use Rattle.svm_model.specs.Memory.Bytes.{bytes_of_result, put_at, value_of_bytes, number_at, with_number}
 use Rattle.svm_model.specs.Svm.VmcbLayout.{layout, number_of, place_at, place_of}
-use Rattle.svm_model.specs.Svm.Vmcb.{Fields, fields_in, with_field, with_value}
+use Rattle.svm_model.specs.Svm.Vmcb.{fields_in, with_field, with_value}
 use Rattle.svm_model.specs.declared.vmcbs.Field.{Field}
 use Rattle.svm_model.specs.declared.vmcbs.Field.TheVariants as field
 use Rattle.svm_model.specs.declared.vmcbs.FieldPlace.{FieldPlace}
 use Rattle.vmcb_layout.specs.Reading.{value_at}
-use Rattle.vmcb_layout.proofs.LayoutLemmas.{at_most_eight, length-layout, narrow, place_at-law}
+use Rattle.vmcb_layout.proofs.LayoutLemmas.{at_most_eight, fields_of, length-layout, narrow, place_at-law}
 use Rattle.vmcb_layout.specs.Widths.{IsWidth}
 
 abbrev end_at : ℕ → ℕ
@@ -119,9 +119,6 @@ number_other memory at w value from v k inside (inl h) =
     ap (λ l. value_of_bytes (take v l)) (behind memory (bytes_of_result w value) at from (omega (arith, inside, long)) (omega (arith, h, long)))
 number_other memory at w value from v k inside (inr h) = ap value_of_bytes (before memory (bytes_of_result w value) at from v (omega (arith, inside)) h)
 
-abbrev the_fields : List ℕ → Fields
-the_fields values = record { values = values }
-
 value-in : (f : FieldPlace → ℕ) (n : ℕ) → n < 86 → slice_index (map f layout) n ≡ f (place_at n)
 unfolding place_at
 value-in f n h = get_or-map f layout n (record { field = field.CrIntercepts; offset = 0; width = 0 }) 0 (omega (arith, length-layout, h))
@@ -165,7 +162,7 @@ all memory vmcb n value h inside fits =
 pub fields_in-with_field : (memory : List ℕ) (vmcb : ℕ) (fld : Field) (value : ℕ) → number_of fld < 86 → vmcb + (place_of fld).offset + (place_of fld).width ≤ length memory → value < 256 ^ (place_of fld).width
     → fields_in (with_field vmcb fld value memory) vmcb ≡ with_value (fields_in memory vmcb) fld value
 unfolding fields_in with_field with_value
-fields_in-with_field memory vmcb fld value h inside fits = ap (λ (values : List ℕ). the_fields values) (all memory vmcb (number_of fld) value h inside fits)
+fields_in-with_field memory vmcb fld value h inside fits = ap (λ (values : List ℕ). fields_of values) (all memory vmcb (number_of fld) value h inside fits)
 
 -- the same where the field's line and the bytes that are written were worked out before
 pub put-alone : (memory new bytes : List ℕ) (vmcb : ℕ) (fld : Field) (value : ℕ) (line : FieldPlace) → line ≡ place_of fld → number_of fld < 86 → take line.width bytes ≡ bytes_of_result line.width value → value < 256 ^ (place_of fld).width
