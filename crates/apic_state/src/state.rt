@@ -113,9 +113,9 @@ impl Apic {
         }
     }
 
-    /// The APIC of this ID and these registers (volume 2, 'Local APIC Registers'). They hold only what a write keeps: DFR is 0
-    /// or 15, SVR below 200h, the low 24 bits of ICR's high half are 0, the timer's word is within 300FFh and the other words
-    /// of the local vector table within 100FFh, the divide register is within Bh, and no vector below 16 is in ISR or IRR.
+    /// The APIC of this ID and these registers (volume 2, 'Local APIC Registers'). They hold only what a write keeps: DFR has
+    /// 0 or 15; SVR 9 bits; the high half of ICR its top byte alone; the timer's word the bits of 300FFh and each other word of
+    /// the local vector table those of 100FFh; the divide register those of Bh. ISR and IRR have no vector below 16.
     #[tactic(auto, unfolding(crate::specs::Parts::parts_of, crate::specs::Parts::of_parts))]
     pub fn from_parts(id: u8, parts: &ApicParts) -> Apic
         requires { AreParts parts.now }

@@ -9,7 +9,10 @@ mod maps;
 mod rows;
 mod traps;
 
-pub use maps::{by_msr, by_port, msr_exit, port_exit};
+pub use maps::{
+    MapBytes, by_msr, by_port, has_msr, has_port, msr_bit, msr_byte, msr_exit, port_exit,
+    ports_bytes,
+};
 pub use rows::by_row;
 pub use svm_model::{Exit, Field, Row, Trap};
 pub use traps::by_trap;

@@ -1,9 +1,10 @@
 // The permission maps of ports and MSRs, which stand in memory.
-ghost use Rattle.std.specs.Prelude.{◌≡◌, ◌⊎◌, ◌*◌, ◌+◌, ◌^◌, ◌≤◌, ◌<◌, IfSome, MatchResult, slice_index, take};
+ghost use Rattle.std.specs.Prelude.{◌≡◌, ◌⊎◌, ◌*◌, ◌+◌, ◌^◌, ◌≤◌, ◌<◌, ◌/◌, ◌%◌, IfSome, MatchResult, option_map, slice_index, take};
 ghost use Rattle.svm_model.specs.Memory.Bytes.{IsWithin, bytes_at, guest_of, value_of_bytes};
-ghost use Rattle.svm_model.specs.Svm.Intercepts.{map_base as base_of_map, msr_exit as exit_of_msr, msr_place as place_of_msr, port_exit as exit_of_port, ports_at, ports_count as count_of_ports};
+ghost use Rattle.svm_model.specs.Svm.Intercepts.{map_base as base_of_map, msr_exit as exit_of_msr, msr_place as place_of_msr, port_exit as exit_of_port, ports_at, ports_count as count_of_ports, ports_set};
 ghost use Rattle.svm_model.specs.declared.vmcbs.Field.{Field as FieldRecord};
-ghost use Rattle.exit_rules.specs.Looked.{msr_looked, msr_reads, ports_looked};
+ghost use Rattle.svm_model.specs.Memory.Bits.{bit as bit_set};
+ghost use Rattle.exit_rules.specs.Looked.{msr_bit as bit_of_msr, msr_looked, msr_reads, ports_looked};
 
 use host_memory::{GuestWindow, HostMemory, Steps};
 use std::sync::ledger::Ledger;
@@ -45,7 +46,7 @@ fn map_base(fields: &Fields, field: Field) -> u64
     4096 * ((fields.value(field) >> 12) % (1 << 40))
 }
 
-/// How many bytes of the map the ports touch.
+/// How many bytes of the permission map these ports touch, at most four of them: one or two.
 fn ports_count(port: u16, width: u8) -> u8
     requires some { 1 ≤ width }
     requires few { width ≤ 4 }
@@ -69,25 +70,73 @@ fn front_value(bytes: &[u8; 16], count: u8) -> u16
     }
 }
 
-/// The number in one or two bytes of a map, by one read.
-#[tactic(auto, using(svm_model::proofs::WindowLemmas::windows))]
-fn read_map<L: Ledger>(
-    memory: &HostMemory,
-    window: GuestWindow,
-    address: u64,
-    count: u8,
-    steps: &mut Steps<L>,
-) -> Result<u16, OutsideMemory>
-    requires window { IsWithin window memory.now.bytes }
-    requires count { (count ≡ 1) ⊎ (count ≡ 2) }
-    ensures value { MatchResult (bytes_at (guest_of window memory.now.bytes) address count)
-        (λ bytes. result ≡ Ok (value_of_bytes bytes))
-        (λ outside. result ≡ Err outside) }
-    ensures steps { steps.new ≡ steps.old + 1 }
+/// Bytes of a permission map: the guest-physical address of the first, and how many they are.
+#[derive(Clone, Copy)]
+pub struct MapBytes {
+    pub address: u64,
+    pub count: u8,
+}
+
+/// The one or two bytes that 1, 2 or 4 ports touch of their permission map (volume 2, 'I/O Permissions Map').
+pub fn ports_bytes(fields: &Fields, port: u16, width: u8) -> MapBytes
+    requires width { (width ≡ 1) ⊎ (width ≡ 2) ⊎ (width ≡ 4) }
+    ensures address { result.address ≡ ports_at fields.now port }
+    ensures count { result.count ≡ count_of_ports port width }
+    ensures few { (result.count ≡ 1) ⊎ (result.count ≡ 2) }
 {
-    let mut bytes = [0; 16];
-    memory.read_guest(window, address, count, &mut bytes, steps)?;
-    Ok(front_value(&bytes, count))
+    MapBytes {
+        address: map_base(fields, Field::IopmBase) + u64::from(port / 8),
+        count: ports_count(port, width),
+    }
+}
+
+/// Whether a bit is set for one of these ports in the bytes that they touch.
+pub fn has_port(bytes: &[u8; 16], port: u16, width: u8) -> bool
+    requires width { (width ≡ 1) ⊎ (width ≡ 2) ⊎ (width ≡ 4) }
+    ensures { result ≡ ports_set (take (count_of_ports port width) bytes.now) port width }
+{
+    let word = front_value(bytes, ports_count(port, width));
+    (word >> (port % 8)) % (1 << width) != 0
+}
+
+/// The first of the two bits of an MSR in its permission map, counted from the map's first bit: it is for reads, and the next
+/// one for writes.
+fn msr_place(msr: u32) -> Option<u16>
+    ensures value { result ≡ place_of_msr msr }
+    ensures few { IfSome result (λ place. place < 65535) }
+{
+    match msr {
+        0..=0x1fff => Some(2 * msr as u16),
+        0xc000_0000..=0xc000_1fff => Some(0x4000 + 2 * (msr - 0xc000_0000) as u16),
+        0xc001_0000..=0xc001_1fff => Some(0x8000 + 2 * (msr - 0xc001_0000) as u16),
+        _ => None,
+    }
+}
+
+/// The bit of a read or a write of an MSR in its permission map, counted from the map's first bit; none where the MSR is
+/// outside the map (volume 2, 'MSR Intercepts').
+pub fn msr_bit(msr: u32, writes: bool) -> Option<u16>
+    ensures { result ≡ option_map (bit_of_msr writes) (place_of_msr msr) }
+{
+    match msr_place(msr) {
+        None => None,
+        Some(place) => Some(place + u16::from(writes)),
+    }
+}
+
+/// The guest-physical address of the byte of the map that has this bit.
+pub fn msr_byte(fields: &Fields, bit: u16) -> u64
+    ensures { result ≡ base_of_map fields.now Field.MsrpmBase + bit / 8 }
+{
+    map_base(fields, Field::MsrpmBase) + u64::from(bit / 8)
+}
+
+/// Whether this bit of the map is set in its byte.
+pub fn has_msr(byte: u8, bit: u16) -> bool
+    ensures { result ≡ bit_set (bit % 8) byte }
+{
+    let set = 1 << (bit % 8);
+    byte & set == set
 }
 
 /// A byte of a map, by one read.
@@ -112,6 +161,7 @@ fn read_byte<L: Ledger>(
 /// Whether the permission map of ports has a bit set for one of 1, 2 or 4 ports, by one read of the one or two bytes that
 /// they touch (volume 2, 'IOIO Intercepts'). Where such a byte is outside the guest's memory, the answer is the first such
 /// address.
+#[tactic(auto, using(svm_model::proofs::WindowLemmas::windows))]
 pub fn by_port<L: Ledger>(
     memory: &HostMemory,
     window: GuestWindow,
@@ -125,23 +175,10 @@ pub fn by_port<L: Ledger>(
     ensures looked { result ≡ ports_looked (guest_of window memory.now.bytes) fields.now port width }
     ensures steps { steps.new ≡ steps.old + 1 }
 {
-    let address = map_base(fields, Field::IopmBase) + u64::from(port / 8);
-    let word = read_map(memory, window, address, ports_count(port, width), steps)?;
-    Ok((word >> (port % 8)) % (1 << width) != 0)
-}
-
-/// The first of the two bits of an MSR in its permission map, counted from the map's first bit: it is for reads, and the next
-/// one for writes.
-fn msr_place(msr: u32) -> Option<u16>
-    ensures value { result ≡ place_of_msr msr }
-    ensures few { IfSome result (λ place. place < 65535) }
-{
-    match msr {
-        0..=0x1fff => Some(2 * msr as u16),
-        0xc000_0000..=0xc000_1fff => Some(0x4000 + 2 * (msr - 0xc000_0000) as u16),
-        0xc001_0000..=0xc001_1fff => Some(0x8000 + 2 * (msr - 0xc001_0000) as u16),
-        _ => None,
-    }
+    let touched = ports_bytes(fields, port, width);
+    let mut bytes = [0; 16];
+    memory.read_guest(window, touched.address, touched.count, &mut bytes, steps)?;
+    Ok(has_port(&bytes, port, width))
 }
 
 /// Whether the permission map of MSRs has the bit set of a read or a write of an MSR, by one read of its byte, or the MSR is
@@ -159,12 +196,9 @@ pub fn by_msr<L: Ledger>(
     ensures looked { result ≡ msr_looked (guest_of window memory.now.bytes) fields.now writes (place_of_msr msr) }
     ensures steps { steps.new ≡ steps.old + msr_reads (place_of_msr msr) }
 {
-    let Some(place) = msr_place(msr) else {
+    let Some(bit) = msr_bit(msr, writes) else {
         return Ok(true);
     };
-    let bit = place + u16::from(writes);
-    let address = map_base(fields, Field::MsrpmBase) + u64::from(bit / 8);
-    let byte = read_byte(memory, window, address, steps)?;
-    let set = 1 << (bit % 8);
-    Ok(byte & set == set)
+    let byte = read_byte(memory, window, msr_byte(fields, bit), steps)?;
+    Ok(has_msr(byte, bit))
 }

@@ -6,7 +6,7 @@ use svm_model::{Access, Leaf};
 /// The leaf that a walk found, and what it was found for.
 #[derive(Clone, Copy)]
 pub struct Kept {
-    pub asid: u16,
+    pub asid: u32,
     pub access: Access,
     pub leaf: Leaf,
     /// A physical address has 40 bits.

@@ -31,7 +31,7 @@ fn is_same_kind(kind: Kind, other: Kind) -> bool
 }
 
 /// Whether two accesses are the same, in the same address space.
-fn is_same(asid: u16, access: Access, other_asid: u16, other: Access) -> bool
+fn is_same(asid: u32, access: Access, other_asid: u32, other: Access) -> bool
     ensures { result ≡ same_access asid access other_asid other }
 {
     let same_kind = is_same_kind(access.kind, other.kind);
@@ -40,7 +40,7 @@ fn is_same(asid: u16, access: Access, other_asid: u16, other: Access) -> bool
 }
 
 /// The kept leaf, where it was found for this access.
-fn find(kept: Option<Kept>, asid: u16, access: Access) -> Option<Leaf>
+fn find(kept: Option<Kept>, asid: u32, access: Access) -> Option<Leaf>
     ensures { result ≡ leaf_for kept asid access }
 {
     let kept = kept?;
@@ -52,7 +52,7 @@ fn find(kept: Option<Kept>, asid: u16, access: Access) -> Option<Leaf>
 }
 
 /// Keeps the leaf that a walk found, if it found one, in the place of what was kept.
-fn refill(kept: &mut Option<Kept>, asid: u16, access: Access, walked: Walked)
+fn refill(kept: &mut Option<Kept>, asid: u32, access: Access, walked: Walked)
     requires frame { HasFrame walked }
     ensures { (history : List Told) (write_protect : Bool) (passed : List Pass) → leaf_for kept.old asid access ≡ None → Stands kept.old history →
         Stands kept.new (Accessed asid write_protect access (as_nested walked) passed ∷ history) }

@@ -15,9 +15,9 @@ use port_bus::Ports;
 use row_table::KeptRows;
 use std::sync::ledger::Ledger;
 use svm_model::{Facts, Outer, Space, Stepped, Vcpu};
-use turn_exec::{Alone, Apics, Outward, Translator};
+use turn_exec::{Apics, Outward, Translator};
 
-/// The turn of a vcpu in L1, for which the copy is dropped first, where its APIC gives no vector. At most 896 reads are
+/// The turn of a vcpu in L1, for which the copy is dropped first, where its APIC gives no vector. At most 900 reads are
 /// counted. Where the rule is kept within the turn, memory, what stands about the vcpu, the vcpu and the answer are those of
 /// the turn that walks for each access.
 pub fn take_turn<B: Ports, A: Apics, L: Ledger>(
@@ -44,10 +44,25 @@ pub fn take_turn<B: Ports, A: Apics, L: Ledger>(
     ensures others { SameOutside window memory.old.bytes memory.new.bytes }
     ensures none_fell { NoneFell (B.faults bus.old) (B.faults bus.new) }
     ensures blamed { IsBlamed outward.new.refused (B.faults bus.old) (B.faults bus.new) }
-    ensures steps { steps.new ≤ steps.old + 896 }
+    ensures steps { steps.new ≤ steps.old + 900 }
 {
     copy.drop_copy();
+    let mut stepped = Stepped::Went;
     turn_exec::take_turn(
-        copy, memory, window, space, bus, apics, &Alone, rows, facts, vcpu, None, steps, outward,
-    )
+        copy,
+        memory,
+        window,
+        space,
+        bus,
+        apics,
+        None,
+        rows,
+        facts,
+        vcpu,
+        None,
+        steps,
+        outward,
+        &mut stepped,
+    );
+    stepped
 }

@@ -1,7 +1,5 @@
 -- The turn of a vcpu of a guest, from what the executor's turn gives.
-use Rattle.std.proofs.Common.{◌≡◌, ◌∙◌, ◌<◌, ℕ, true, false, is_some, IfSome, IfOk, IfErr, OnOk, OnErr, Result, Ok, Err, List, [], ◌∷◌, zero, suc, Option, Some, None, ap, sym, refl, subst, map, length, slice_get, slice_set, slice_index_or}
-use Rattle.std.specs.List.{All}
-use Rattle.std.proofs.lemmas.List.Elements.{All-head, All-tail}
+use Rattle.std.proofs.Common.{◌≡◌, ◌∙◌, ◌<◌, ℕ, true, false, is_some, IfSome, IfOk, IfErr, OnOk, OnErr, Result, Ok, Err, List, Option, Some, None, ap, sym, refl, subst, length, slice_get, slice_set, slice_index_or}
 use Rattle.std.proofs.lemmas.List.{length-set}
 use Rattle.std.proofs.lemmas.Option.{slice_get-get_or}
 use Rattle.svm_model.specs.Machine.Apic.{Apic}
@@ -15,14 +13,13 @@ use Rattle.svm_model.specs.declared.names.Ended.{Ended}
 use Rattle.svm_model.specs.declared.names.RunEnd.{RunEnd}
 use Rattle.svm_model.specs.declared.ports.PortWrite.{PortWrite}
 use Rattle.svm_model.specs.declared.turns.Stepped.{Stepped}
-use Rattle.svm_model.specs.declared.vcpus.Inside.{Inside}
 use Rattle.svm_model.specs.declared.vcpus.Vcpu.{Vcpu}
 use Rattle.turn_exec.specs.Plays.{board_with, refused_at, IsBlamed}
 use Rattle.svm_model.specs.Turn.Course.{Told}
 use Rattle.port_bus.specs.Causes.{Blames}
 use Rattle.plain_machine.specs.GuestTurns.{GuestTurn, guest_turn, facts_in, outcome_of, turn_done_in, with_live_in, with_vcpu_in, with_apic_in, IsOutIn}
 use Rattle.plain_machine.specs.declared.turns.Cut.{Cut}
-use Rattle.plain_machine.proofs.SendingLemmas.{insides-sent, length-sent, with_sent-is}
+use Rattle.plain_machine.proofs.SendingLemmas.{length-sent, length-vcpus-sent, with_sent-is}
 use Rattle.plain_machine.specs.Sending.{apics_sent_to, vcpus_sent_to}
 use Rattle.plain_machine.specs.Slots.{Kept, layout}
 use Rattle.plain_machine.specs.Turning.{Gives, GrantsLast}
@@ -161,29 +158,13 @@ came_at m i bus new faults later guest vcpu after apic gone memory calls end den
     (came m bus new faults later guest vcpu after apic gone memory calls end denied stepped sent e
     (at_index guest.vcpus i m.vcpu.index vcpu v is in_vcpus) (at_index guest.apics i m.vcpu.index apic a is in_apics) g out kept last blamed)
 
--- no vcpu of a slot runs a guest of its own
-pub outside-of : (vcpus : List Vcpu) (i : ℕ) (vcpu : Vcpu) → All (λ (o : Option Inside). o ≡ None) (map (λ (v : Vcpu). v.inside) vcpus) → slice_get vcpus i ≡ Some vcpu → vcpu.inside ≡ None
-outside-of [] i vcpu all e = absurd (cc)
-outside-of (v ∷ vcpus) zero vcpu all e =
-    let same : v ≡ vcpu = cc in
-    sym (ap (λ (x : Vcpu). x.inside) same) ∙ All-head (λ (o : Option Inside). o ≡ None) v.inside (map (λ (x : Vcpu). x.inside) vcpus) all
-outside-of (v ∷ vcpus) (suc i) vcpu all e = outside-of vcpus i vcpu (All-tail (λ (o : Option Inside). o ≡ None) v.inside (map (λ (x : Vcpu). x.inside) vcpus) all) e
-
-insides-set : (vcpus : List Vcpu) (i : ℕ) (vcpu after : Vcpu) → slice_get vcpus i ≡ Some vcpu → after.inside ≡ vcpu.inside → map (λ (v : Vcpu). v.inside) (slice_set vcpus i after) ≡ map (λ (v : Vcpu). v.inside) vcpus
-insides-set [] i vcpu after e same = refl
-insides-set (v ∷ vcpus) zero vcpu after e same =
-    let one : v ≡ vcpu = cc in
-    ap (λ (o : Option Inside). o ∷ map (λ (x : Vcpu). x.inside) vcpus) (same ∙ sym (ap (λ (x : Vcpu). x.inside) one))
-insides-set (v ∷ vcpus) (suc i) vcpu after e same = ap (λ (os : List (Option Inside)). v.inside ∷ os) (insides-set vcpus i vcpu after e same)
-
 -- a turn leaves the guest's layout
-pub layout-after : (slot : Kept) (end : Option Ended) (i sender : ℕ) (vcpu after : Vcpu) (gone : Apic) (sent : Option Ipi) → slice_get slot.vcpus i ≡ Some vcpu → after.inside ≡ vcpu.inside →
+pub layout-after : (slot : Kept) (end : Option Ended) (i sender : ℕ) (after : Vcpu) (gone : Apic) (sent : Option Ipi) →
     layout (record { window = slot.window; ended = end; vcpus = vcpus_sent_to sent sender (slice_set slot.apics i gone) (slice_set slot.vcpus i after); apics = apics_sent_to sent sender (slice_set slot.apics i gone) }) ≡ layout slot
-layout-after slot end i sender vcpu after gone sent e same =
-    ap (λ (os : List (Option Inside)). record { window = slot.window; insides = os; apics = length (apics_sent_to sent sender (slice_set slot.apics i gone)) }) (insides-sent sent sender (slice_set slot.apics i gone) (slice_set slot.vcpus i after))
-    ∙ ap (λ (n : ℕ). record { window = slot.window; insides = map (λ (v : Vcpu). v.inside) (slice_set slot.vcpus i after); apics = n }) (length-sent sent sender (slice_set slot.apics i gone))
-    ∙ ap (λ (os : List (Option Inside)). record { window = slot.window; insides = os; apics = length (slice_set slot.apics i gone) }) (insides-set slot.vcpus i vcpu after e same)
-    ∙ ap (λ (n : ℕ). record { window = slot.window; insides = map (λ (v : Vcpu). v.inside) slot.vcpus; apics = n }) (length-set slot.apics i gone)
+layout-after slot end i sender after gone sent =
+    ap (λ (n : ℕ). record { window = slot.window; vcpus = n; apics = length (apics_sent_to sent sender (slice_set slot.apics i gone)) })
+    (length-vcpus-sent sent sender (slice_set slot.apics i gone) (slice_set slot.vcpus i after) ∙ length-set slot.vcpus i after)
+    ∙ ap (λ (n : ℕ). record { window = slot.window; vcpus = length slot.vcpus; apics = n }) (length-sent sent sender (slice_set slot.apics i gone) ∙ length-set slot.apics i gone)
 
 -- The turn among all guests.
 
@@ -204,8 +185,6 @@ pub if_err : {T E : Type 0} (r : Result T E) (A B : E → Type 0) → ((e : E) �
 if_err (Ok x) A B f a = tt
 if_err (Err e) A B f a = f e a
 
--- a changed vcpu that keeps its inside leaves the layout
-pub layout-vcpu : (slot : Kept) (end : Option Ended) (i : ℕ) (vcpu after : Vcpu) → slice_get slot.vcpus i ≡ Some vcpu → after.inside ≡ vcpu.inside →
-    layout (record { window = slot.window; ended = end; vcpus = slice_set slot.vcpus i after; apics = slot.apics }) ≡ layout slot
-layout-vcpu slot end i vcpu after e same =
-    ap (λ (os : List (Option Inside)). record { window = slot.window; insides = os; apics = length slot.apics }) (insides-set slot.vcpus i vcpu after e same)
+-- a changed vcpu leaves the layout
+pub layout-vcpu : (slot : Kept) (end : Option Ended) (i : ℕ) (after : Vcpu) → layout (record { window = slot.window; ended = end; vcpus = slice_set slot.vcpus i after; apics = slot.apics }) ≡ layout slot
+layout-vcpu slot end i after = ap (λ (n : ℕ). record { window = slot.window; vcpus = n; apics = length slot.apics }) (length-set slot.vcpus i after)

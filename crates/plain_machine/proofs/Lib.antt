@@ -1,4 +1,5 @@
 pub mod ChangeLemmas
+pub mod FoundFields
 pub mod GuestTurnLemmas
 pub mod HeedLemmas
 pub mod LookupLemmas

@@ -1,9 +1,9 @@
 -- The guests of an image as they start.
-use Rattle.std.proofs.Common.{◌≡◌, ◌∙◌, ℕ, zero, suc, ◌+◌, ◌-◌, ◌*◌, ◌≤◌, ◌<◌, List, [], ◌∷◌, ◌++◌, Option, None, length, take, drop, map, replicate, ap, sym, refl, subst, arith, get_or, add-one}
-use Rattle.std.specs.List.{All, AllByRecursion}
+use Rattle.std.proofs.Common.{◌≡◌, ◌∙◌, ℕ, zero, suc, ◌+◌, ◌-◌, ◌*◌, ◌≤◌, ◌<◌, List, [], ◌∷◌, ◌++◌, length, take, drop, map, replicate, ap, sym, refl, subst, arith, get_or, add-one}
+use Rattle.std.specs.List.{All}
 use Rattle.std.proofs.Math.Seq.{take-suc}
 use Rattle.std.proofs.lemmas.List.{drop-drop, take-replicate, drop-replicate, length-map, map-append}
-use Rattle.std.proofs.lemmas.List.Elements.{All-from_recursion, All-head, All-tail, All-take}
+use Rattle.std.proofs.lemmas.List.Elements.{All-head, All-tail, All-take}
 use Rattle.svm_model.specs.Formats.Image.{ImageGuest}
 use Rattle.svm_model.specs.Formats.LawfulImages.{IsLawfulGuest}
 use Rattle.svm_model.specs.Machine.Apic.{Apic, first_apic}
@@ -11,8 +11,6 @@ use Rattle.svm_model.specs.Machine.Guest.{Guest}
 use Rattle.svm_model.specs.Machine.World.{first_apics, first_guest, first_vcpu, loaded}
 use Rattle.svm_model.specs.Memory.Bytes.{SameOutside, guest_of}
 use Rattle.svm_model.specs.declared.register_file.Registers.{Registers}
-use Rattle.svm_model.specs.declared.vcpus.Inside.{Inside}
-use Rattle.svm_model.specs.declared.vcpus.Vcpu.{Vcpu}
 use Rattle.svm_model.specs.declared.windows.GuestWindow.{GuestWindow}
 use Rattle.plain_machine.proofs.Rows.{before, row_end}
 use Rattle.plain_machine.specs.Opening.{pages_in, slot_of, slots_of}
@@ -41,20 +39,12 @@ length-first_apics id (r ∷ starts) = omega (arith, length-first_apics (id + 1)
 
 -- Their slots.
 
-each : (starts : List Registers) → AllByRecursion (λ (o : Option Inside). o ≡ None) (map (λ (v : Vcpu). v.inside) (map first_vcpu starts))
-each [] = tt
-each (r ∷ starts) = (refl, each starts)
-
-insides : (starts : List Registers) → All (λ (o : Option Inside). o ≡ None) (map (λ (v : Vcpu). v.inside) (map first_vcpu starts))
-insides starts = All-from_recursion (λ (o : Option Inside). o ≡ None) (map (λ (v : Vcpu). v.inside) (map first_vcpu starts)) (each starts)
-
 is_slot : (base : ℕ) (guest : ImageGuest) → IsLawfulGuest guest → IsSlot (layout (slot_of base guest))
 is_slot base guest lawful = record {
   pages = grind arith;
   some = let p = lawful.some_pages in omega (arith, p);
-  apics = length-first_apics 0 guest.vcpus ∙ sym (length-map (map first_vcpu guest.vcpus) (λ (v : Vcpu). v.inside) ∙ length-map guest.vcpus first_vcpu);
+  apics = length-first_apics 0 guest.vcpus ∙ sym (length-map guest.vcpus first_vcpu);
   few = omega (arith, length-first_apics 0 guest.vcpus, lawful.most_vcpus);
-  outside = insides guest.vcpus;
 }
 
 pub row_of : (size from : ℕ) (guests : List ImageGuest) → All IsLawfulGuest guests → from + 4096 * pages_in guests ≤ size → AreInRow size from (layouts (slots_of from guests))

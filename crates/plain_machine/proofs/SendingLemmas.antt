@@ -1,5 +1,5 @@
 -- An interrupt that the vcpus of a guest receive one after another.
-use Rattle.std.proofs.Common.{arith, ◌≡◌, ◌∙◌, ℕ, ◌+◌, ◌*◌, ◌%◌, ◌/◌, ◌<◌, ◌≤◌, ◌==◌, ◌||◌, Bool, true, false, if◌then◌else◌, List, [], ◌∷◌, ◌++◌, Option, Some, None, length, map, take, drop, ap, sym, refl, slice_set, slice_index_or}
+use Rattle.std.proofs.Common.{arith, ◌≡◌, ◌∙◌, ℕ, ◌+◌, ◌*◌, ◌%◌, ◌/◌, ◌<◌, ◌≤◌, ◌==◌, ◌||◌, Bool, true, false, if◌then◌else◌, List, [], ◌∷◌, ◌++◌, Option, Some, None, length, take, drop, ap, sym, refl, slice_set, slice_index_or}
 use Rattle.std.proofs.Math.ListN.{drop_of_length-le}
 use Rattle.std.proofs.lemmas.Bool.Decides.{nat_tests}
 use Rattle.std.proofs.lemmas.List.{take_all, take_more_set, drop-set-lt, drop_more, drop-drop}
@@ -8,7 +8,6 @@ use Rattle.svm_model.specs.Machine.ApicTargets.{targets_of}
 use Rattle.svm_model.specs.Machine.Guest.{Guest}
 use Rattle.svm_model.specs.Machine.Turns.{accepted_where, all_accepted, with_nmi, with_nmis, with_sent}
 use Rattle.svm_model.specs.declared.apics.Ipi.{Ipi}
-use Rattle.svm_model.specs.declared.vcpus.Inside.{Inside}
 use Rattle.svm_model.specs.declared.vcpus.Vcpu.{Vcpu}
 use Rattle.apic_state.specs.Masks.{mask_of}
 use Rattle.plain_machine.specs.Sending.{apics_sent_to, vcpus_sent_to}
@@ -115,19 +114,19 @@ with_sent-is (Some ipi) sender guest = by_mode (ipi.mode == 4) guest (with_nmis 
 
 -- What the layout speaks of stays.
 
-nmis-insides : (targets : List Bool) (vcpus : List Vcpu) → map (λ (v : Vcpu). v.inside) (with_nmis targets vcpus) ≡ map (λ (v : Vcpu). v.inside) vcpus
+length-nmis : (targets : List Bool) (vcpus : List Vcpu) → length (with_nmis targets vcpus) ≡ length vcpus
 unfolding with_nmis
-nmis-insides [] vcpus = refl
-nmis-insides (t ∷ targets) [] = refl
-nmis-insides (t ∷ targets) (v ∷ vcpus) = ap (λ (os : List (Option Inside)). v.inside ∷ os) (nmis-insides targets vcpus)
+length-nmis [] vcpus = refl
+length-nmis (t ∷ targets) [] = refl
+length-nmis (t ∷ targets) (v ∷ vcpus) = omega (arith, length-nmis targets vcpus)
 
-insides-by_mode : (b : Bool) (targets : List Bool) (vcpus : List Vcpu) → map (λ (v : Vcpu). v.inside) (if b then with_nmis targets vcpus else vcpus) ≡ map (λ (v : Vcpu). v.inside) vcpus
-insides-by_mode true targets vcpus = nmis-insides targets vcpus
-insides-by_mode false targets vcpus = refl
+vcpus-by_mode : (b : Bool) (targets : List Bool) (vcpus : List Vcpu) → length (if b then with_nmis targets vcpus else vcpus) ≡ length vcpus
+vcpus-by_mode true targets vcpus = length-nmis targets vcpus
+vcpus-by_mode false targets vcpus = refl
 
-pub insides-sent : (sent : Option Ipi) (sender : ℕ) (apics : List Apic) (vcpus : List Vcpu) → map (λ (v : Vcpu). v.inside) (vcpus_sent_to sent sender apics vcpus) ≡ map (λ (v : Vcpu). v.inside) vcpus
-insides-sent None sender apics vcpus = refl
-insides-sent (Some ipi) sender apics vcpus = insides-by_mode (ipi.mode == 4) (targets_of ipi sender apics) vcpus
+pub length-vcpus-sent : (sent : Option Ipi) (sender : ℕ) (apics : List Apic) (vcpus : List Vcpu) → length (vcpus_sent_to sent sender apics vcpus) ≡ length vcpus
+length-vcpus-sent None sender apics vcpus = refl
+length-vcpus-sent (Some ipi) sender apics vcpus = vcpus-by_mode (ipi.mode == 4) (targets_of ipi sender apics) vcpus
 
 length-vectors : (vector : ℕ) (targets : List Bool) (apics : List Apic) → length (all_accepted targets vector apics) ≡ length apics
 unfolding all_accepted

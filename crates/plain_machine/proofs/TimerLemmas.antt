@@ -1,10 +1,9 @@
 -- Timers of guests that are kept are those of the guests.
-use Rattle.std.proofs.Common.{◌≡◌, ◌∙◌, ℕ, List, [], ◌∷◌, Option, Some, None, map, ap, refl}
+use Rattle.std.proofs.Common.{length, ◌≡◌, ◌∙◌, ℕ, List, [], ◌∷◌, Option, Some, None, map, ap, refl}
 use Rattle.std.proofs.lemmas.List.{length-map}
 use Rattle.svm_model.specs.Machine.Events.{guest_with_timers}
 use Rattle.svm_model.specs.Machine.Guest.{Guest}
 use Rattle.svm_model.specs.declared.names.Ended.{Ended}
-use Rattle.svm_model.specs.declared.vcpus.Vcpu.{Vcpu}
 use Rattle.plain_machine.specs.Slots.{Kept, Layout, layout, guest_at, guests_at, layouts, rung, rung_slot, rung_if}
 
 one_if : (bytes : List ℕ) (event : ℕ) (slot : Kept) (o : Option Ended) → slot.ended ≡ o → guest_at bytes (rung_if event slot o) ≡ guest_with_timers event (guest_at bytes slot)
@@ -22,7 +21,7 @@ guests_at-rung bytes event (slot ∷ slots) =
 
 layout_if : (event : ℕ) (slot : Kept) (o : Option Ended) → layout (rung_if event slot o) ≡ layout slot
 layout_if event slot (Some ended) = refl
-layout_if event slot None = ap (λ (n : ℕ). record { window = slot.window; insides = map (λ (v : Vcpu). v.inside) slot.vcpus; apics = n }) (length-map slot.apics (rung event))
+layout_if event slot None = ap (λ (n : ℕ). record { window = slot.window; vcpus = length slot.vcpus; apics = n }) (length-map slot.apics (rung event))
 
 pub layouts-rung : (event : ℕ) (slots : List Kept) → layouts (map (rung_slot event) slots) ≡ layouts slots
 layouts-rung event [] = refl

@@ -30,8 +30,7 @@ sizes_in guests = map (λ (g : Guest). length g.memory) guests
 pub counts-layouts : (bytes : List ℕ) (slots : List Kept) → counts (layouts slots) ≡ vcpus_in (guests_at bytes slots)
 counts-layouts bytes [] = refl
 counts-layouts bytes (x ∷ slots) =
-    ap (λ (n : ℕ). n ∷ counts (layouts slots)) (length-map x.vcpus (λ (v : Vcpu). v.inside))
-    ∙ ap (λ (ns : List ℕ). length x.vcpus ∷ ns) (counts-layouts bytes slots)
+    ap (λ (ns : List ℕ). length x.vcpus ∷ ns) (counts-layouts bytes slots)
 
 sizes-layouts : (bytes : List ℕ) (from : ℕ) (slots : List Kept) → AreInRow (length bytes) from (layouts slots) → sizes_in (guests_at bytes slots) ≡ map (λ (l : Layout). l.window.size) (layouts slots)
 sizes-layouts bytes from [] row = refl
@@ -92,7 +91,7 @@ apic_for : (o : Option Kept) (index : ℕ) → ((s : Kept) → o ≡ Some s → 
 apic_for None index one h = h
 apic_for (Some s) index one h =
     let slot = one s refl in
-    omega (arith, h, slot.apics, length-map s.vcpus (λ (v : Vcpu). v.inside))
+    omega (arith, h, slot.apics)
 
 -- its APIC is there too
 pub named_apic : (size : ℕ) (slots : List Kept) (id : VcpuId) → AreInRow size 0 (layouts slots) → IfSome (slice_get slots id.guest.0) (λ slot. id.index < length slot.vcpus) → IfSome (slice_get slots id.guest.0) (λ slot. id.index < length slot.apics)

@@ -1,13 +1,11 @@
 -- A guest as the machine keeps it: its window of host memory in the place of its memory.
 use Rattle.std.specs.Prelude.{◌≡◌, ℕ, ◌+◌, ◌%◌, ◌<◌, ◌≤◌, List, [], ◌∷◌, Option, Some, None, length, map, slice_get}
-use Rattle.std.specs.List.{All}
 use Rattle.svm_model.specs.Machine.Apic.{Apic, expired}
 use Rattle.svm_model.specs.Machine.Guest.{Guest}
 use Rattle.svm_model.specs.Machine.Shapes.{IsOneToOne}
 use Rattle.svm_model.specs.Memory.Bytes.{guest_of}
 use Rattle.svm_model.specs.declared.names.Ended.{Ended}
 use Rattle.svm_model.specs.declared.names.VcpuId.{VcpuId}
-use Rattle.svm_model.specs.declared.vcpus.Inside.{Inside}
 use Rattle.svm_model.specs.declared.vcpus.Vcpu.{Vcpu}
 use Rattle.svm_model.specs.declared.windows.GuestWindow.{GuestWindow}
 
@@ -24,25 +22,24 @@ guest_at bytes slot = record { memory = guest_of slot.window bytes; ended = slot
 abbrev pub guests_at : List ℕ → List Kept → List Guest
 guests_at bytes slots = map (guest_at bytes) slots
 
--- what no event changes of a guest: its window, whether its vcpus run guests of their own, and how many APICs it has
+-- what no event changes of a guest: its window, and how many vcpus and APICs it has
 pub record Layout : Type 0 where
   pub window : GuestWindow
-  pub insides : List (Option Inside)
+  pub vcpus : ℕ
   pub apics : ℕ
 
 abbrev pub layout : Kept → Layout
-layout slot = record { window = slot.window; insides = map (λ (v : Vcpu). v.inside) slot.vcpus; apics = length slot.apics }
+layout slot = record { window = slot.window; vcpus = length slot.vcpus; apics = length slot.apics }
 
 abbrev pub layouts : List Kept → List Layout
 layouts slots = map layout slots
 
--- a window of whole pages, of which there is one at least; an APIC for each vcpu, eight at most; no vcpu runs a guest of its own
+-- a window of whole pages, of which there is one at least; an APIC for each vcpu, eight at most
 pub record IsSlot (l : Layout) : Type 0 where
   pub pages : l.window.size % 4096 ≡ 0
   pub some : 4096 ≤ l.window.size
-  pub apics : l.apics ≡ length l.insides
+  pub apics : l.apics ≡ l.vcpus
   pub few : l.apics ≤ 8
-  pub outside : All (λ (o : Option Inside). o ≡ None) l.insides
 
 -- The windows stand in a row from a place on, and all within so many bytes: no two have a byte in common.
 abbrev pub AreInRow : ℕ → ℕ → List Layout → Type 0
@@ -61,7 +58,7 @@ pub record AreThere (counts : List ℕ) (placing : List (Option VcpuId)) : Type 
 
 -- how many vcpus each guest has
 abbrev pub counts : List Layout → List ℕ
-counts guests = map (λ (guest : Layout). length guest.insides) guests
+counts guests = map (λ (guest : Layout). guest.vcpus) guests
 
 -- an APIC whose timer rings where it is due
 abbrev pub rung : ℕ → Apic → Apic

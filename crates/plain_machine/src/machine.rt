@@ -97,7 +97,7 @@ impl PlainMachine {
         ensures shape { world_shape self.new.world ≡ world_shape self.old.world }
         ensures number { self.new.world.event ≡ self.old.world.event }
         ensures stopped { self.new.stopped ≡ self.old.stopped }
-        ensures steps { steps.new ≤ steps.old + 896 }
+        ensures steps { steps.new ≤ steps.old + 968 }
         ensures later { steps.old ≤ steps.new }
     {
         let moment = Moment {
@@ -195,7 +195,7 @@ impl PlainMachine {
         ensures shape { world_shape self.new.world ≡ world_shape self.old.world }
         ensures number { OnOk result (self.new.world.event ≡ self.old.world.event + 1) }
         ensures stopped { self.new.stopped ≡ self.old.stopped }
-        ensures steps { steps.new ≤ steps.old + 896 }
+        ensures steps { steps.new ≤ steps.old + 968 }
         ensures later { steps.old ≤ steps.new }
     {
         let Some(vcpu) = self.placed_on(cpu) else {
@@ -260,7 +260,7 @@ impl PlainMachine {
         ensures shape { world_shape self.new.world ≡ world_shape self.old.world }
         ensures number { OnOk result (self.new.world.event ≡ self.old.world.event + 1) }
         ensures stopped { self.new.stopped ≡ self.old.stopped }
-        ensures steps { steps.new ≤ steps.old + 896 }
+        ensures steps { steps.new ≤ steps.old + 968 }
         ensures still { is_run event ≡ false → steps.new ≡ steps.old }
         ensures later { steps.old ≤ steps.new }
     {
@@ -295,7 +295,7 @@ impl PlainMachine {
     }
 
     /// Does one event of the schedule: places a vcpu, lets the placed vcpu take one turn, feeds a port device or unplugs it, or
-    /// hands an interrupt or an NMI to a vcpu. The turn of a guest that was ended does nothing, so an end stays. At most 896
+    /// hands an interrupt or an NMI to a vcpu. The turn of a guest that was ended does nothing, so an end stays. At most 968
     /// reads are counted, as many as a turn may spend, and none where no vcpu may take one. The event names what the image and
     /// the bus have, fewer than 1,048,576 events came before it, and the machine is not stopped.
     ///
@@ -324,7 +324,7 @@ impl PlainMachine {
         ensures ends_stay { EndsStay self.old.world self.new.world }
         ensures shape { world_shape self.new.world ≡ world_shape self.old.world }
         ensures number { OnOk result (self.new.world.event ≡ self.old.world.event + 1) }
-        ensures steps { steps.new ≤ steps.old + 896 }
+        ensures steps { steps.new ≤ steps.old + 968 }
         ensures still { is_run event ≡ false → steps.new ≡ steps.old }
         ensures later { steps.old ≤ steps.new }
     {

@@ -85,7 +85,7 @@ fn outcome_of(
     }
 }
 
-/// The turn of a vcpu of a guest; nothing where the guest was ended. At most 896 reads are counted.
+/// The turn of a vcpu of a guest; nothing where the guest was ended. At most 968 reads are counted.
 #[tactic(auto, using(svm_model::proofs::WindowLemmas::windows, port_bus::proofs::Counts::counts))]
 fn turn_guest<B: Ports, L: Ledger>(
     memory: &mut HostMemory,
@@ -108,7 +108,7 @@ fn turn_guest<B: Ports, L: Ledger>(
     ensures none_fell { NoneFell (B.faults bus.old) (B.faults bus.new) }
     ensures layout { layout slot.new ≡ layout slot.old }
     ensures others { SameOutside slot.old.window memory.old.bytes memory.new.bytes }
-    ensures steps { steps.new ≤ steps.old + 896 }
+    ensures steps { steps.new ≤ steps.old + 968 }
     ensures later { steps.old ≤ steps.new }
 {
     if slot.ended.is_some() {
@@ -119,7 +119,8 @@ fn turn_guest<B: Ports, L: Ledger>(
     let apic = &mut slot.apics[index];
     let facts = facts_of(moment, vcpu, apic);
     let mut outward = Outward::new();
-    let stepped = take_turn(
+    let mut stepped = Stepped::Went;
+    take_turn(
         memory,
         slot.window,
         bus,
@@ -129,6 +130,7 @@ fn turn_guest<B: Ports, L: Ledger>(
         vcpu,
         steps,
         &mut outward,
+        &mut stepped,
     );
     let ended = end_by(moment, &stepped);
     note_end(&mut slot.ended, ended);
@@ -161,7 +163,7 @@ pub fn turn_in<B: Ports, L: Ledger>(
     ensures none_fell { NoneFell (B.faults bus.old) (B.faults bus.new) }
     ensures layouts { layouts slots.new ≡ layouts slots.old }
     ensures size { length memory.new.bytes ≡ length memory.old.bytes }
-    ensures steps { steps.new ≤ steps.old + 896 }
+    ensures steps { steps.new ≤ steps.old + 968 }
     ensures later { steps.old ≤ steps.new }
 {
     let slot = &mut slots[usize::from(moment.vcpu.guest.0)];

@@ -16,7 +16,7 @@ pub fn events_text(alloc: Global, count: u32) -> Result<Vec<u8>, NoMemory>
     Ok(text.into_bytes())
 }
 
-/// The line `guest G live`, or `guest G ended NAME value=HEX vcpu=V event=N`, of a guest.
+/// The line of a guest: `guest G live`, or how it was ended, at which vcpu and event.
 pub fn guest_text(alloc: Global, guest: GuestId, ended: Option<Ended>) -> Result<Vec<u8>, NoMemory>
     ensures { IfOk result (λ text. text.items ≡ guest_line guest.0 ended) }
 {

@@ -117,7 +117,7 @@ fn supervisor_refusal(registers: &Registers) -> Option<Trap>
 }
 
 /// EFER.SVME, bit 12: the instructions of SVM are there (volume 2, 'Extended Feature Enable Register').
-pub fn has_svm(registers: &Registers) -> bool
+fn has_svm(registers: &Registers) -> bool
     ensures { result ≡ has_svm registers.now }
 {
     EferBits(registers.efer).contains(EferBits::SVM_ENABLE)

@@ -18,7 +18,8 @@ mod registers;
 mod system_rows;
 mod tables;
 
-pub use guards::{has_svm, refusal};
+pub use guards::{refusal, writes_special};
+pub use ports::{port_bytes, port_of};
 pub use svm_model::{Facts, Outside, Registers, Row, Trap};
 pub use system_rows::system;
 

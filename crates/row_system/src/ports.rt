@@ -10,8 +10,8 @@ use register_file::whole_register;
 use row_table::names_dx;
 use svm_model::{Outside, Registers, Row, Width};
 
-/// The port of IN and OUT: in DX, or a byte of the instruction.
-fn port_of(row: &Row, registers: &Registers) -> u16
+/// The port of IN and OUT: in DX, or a byte of the instruction (volume 3, 'IN', 'OUT').
+pub fn port_of(row: &Row, registers: &Registers) -> u16
     ensures { result ≡ port_of row.now registers.now }
 {
     let port = if names_dx(row.form) {
@@ -22,8 +22,8 @@ fn port_of(row: &Row, registers: &Registers) -> u16
     (port % 0x1_0000) as u16
 }
 
-/// How many bytes IN and OUT move.
-fn port_bytes(width: Width) -> u8
+/// How many bytes IN and OUT move: 1, 2 or 4 (volume 3, 'IN', 'OUT').
+pub fn port_bytes(width: Width) -> u8
     ensures count { result ≡ port_bytes width }
     ensures width { IsWidth result }
 {

@@ -1,5 +1,6 @@
--- What holds of each course of a turn, at either level: it reads or writes a port at most once, last of all; it leaves its
--- vcpu at the level where it was; and where it ends the guest the registers are those before it.
+-- What holds of each course of a turn, at either level: it reads or writes a port at most once, last of all, and then goes
+-- through; its vcpu stays outside of all VMCBs, or inside the same; and where it ends the guest the registers are those before
+-- it.
 use Rattle.std.proofs.Common.{◌≡◌, ◌∙◌, ℕ, suc, zero, Bool, true, false, List, [], ◌∷◌, Option, Some, None, Result, Ok, Err, refl}
 use Rattle.std.specs.Prelude.{if◌then◌else◌, ◌+◌, ◌*◌, ◌&&◌, not, nat_le, take, drop, slice_index, slice_set, ◌-◌, ◌%◌, ◌^◌}
 use Rattle.svm_model.specs.Turn.Accesses.{Piece, Words, accessed, accesses, in_next_page, is_in_one_page, joined, left_in_page, no_values, number_of, on_part, piece_read, place_of, planned_accesses, reads, results_written, then_on, then_piece, with_access, with_part, with_piece, with_place, with_result, with_two_pieces, with_written, writes}
@@ -27,8 +28,8 @@ use Rattle.svm_model.specs.Instructions.Rows.{decoded}
 use Rattle.svm_model.specs.Instructions.SystemState.{Systemic}
 use Rattle.svm_model.specs.Instructions.UserRows.{is_user_row}
 use Rattle.svm_model.specs.Turn.Work.{course_of, done, inject, next_work, take_interrupt, take_nmi, take_virtual, turn_course}
-use Rattle.svm_model.specs.Machine.Guest.{level_in}
 use Rattle.svm_model.specs.declared.vcpus.Inside.{Inside}
+use Rattle.svm_model.specs.declared.vcpus.Kept.{Kept}
 use Rattle.svm_model.specs.declared.names.End.TheVariants as end
 use Rattle.svm_model.specs.declared.ports.PortWrite.{PortWrite}
 use Rattle.svm_model.specs.declared.register_file.Registers.{Registers}
@@ -65,9 +66,14 @@ use Rattle.svm_model.specs.declared.exits.Exit.{Exit}
 use Rattle.svm_model.specs.declared.guards.Intercept.{Intercept}
 use Rattle.svm_model.specs.declared.guards.Intercept.TheVariants as intercept
 
--- the vcpu has the registers of another, and is at its level
+-- what a vcpu inside a VMCB goes back to
+abbrev pub kept_in : Option Inside → Option Kept
+kept_in None = None
+kept_in (Some i) = Some i.kept
+
+-- the vcpu has the registers of another, and goes back to the same
 pub record IsLike (start vcpu : Vcpu) : Type 0 where
-  pub level : level_in vcpu.inside ≡ level_in start.inside
+  pub kept : kept_in vcpu.inside ≡ kept_in start.inside
   pub registers : vcpu.registers ≡ start.registers
 
 -- an end of the guest, and a row that moves a VMCB, find the registers as before the turn
@@ -79,26 +85,26 @@ keeps_registers (Ends e) = true
 
 -- a turn that starts with one vcpu may leave it so
 pub record IsFine (start vcpu : Vcpu) (stepped : Stepped) : Type 0 where
-  pub level : level_in vcpu.inside ≡ level_in start.inside
+  pub kept : kept_in vcpu.inside ≡ kept_in start.inside
   pub registers : keeps_registers stepped ≡ true → vcpu.registers ≡ start.registers
 
--- the turn is over
-abbrev pub IsOver : Vcpu → Course → Type 0
-IsOver start (Done vcpu stepped) = IsFine start vcpu stepped
-IsOver start (Release next) = ⊥
-IsOver start (Translate part next) = ⊥
-IsOver start (Read number address count next) = ⊥
-IsOver start (Write number address bytes next) = ⊥
-IsOver start (Look address count next) = ⊥
-IsOver start (Drop flush next) = ⊥
-IsOver start (In port width next) = ⊥
-IsOver start (Out write next) = ⊥
-IsOver start (ApicRead offset event next) = ⊥
-IsOver start (ApicWrite offset value event next) = ⊥
-IsOver start (Take next) = ⊥
-IsOver start (Priority tpr next) = ⊥
+-- the turn is over, and comes out so
+abbrev pub IsDone : Vcpu → Stepped → Course → Type 0
+IsDone start s (Done vcpu stepped) = IsFine start vcpu stepped × (stepped ≡ s)
+IsDone start s (Release next) = ⊥
+IsDone start s (Translate part next) = ⊥
+IsDone start s (Read number address count next) = ⊥
+IsDone start s (Write number address bytes next) = ⊥
+IsDone start s (Look address count next) = ⊥
+IsDone start s (Drop flush next) = ⊥
+IsDone start s (In port width next) = ⊥
+IsDone start s (Out write next) = ⊥
+IsDone start s (ApicRead offset event next) = ⊥
+IsDone start s (ApicWrite offset value event next) = ⊥
+IsDone start s (Take next) = ⊥
+IsDone start s (Priority tpr next) = ⊥
 
--- where a port is read or written to, the turn is then over
+-- where a port is read or written to, the turn is then over, and has gone through
 abbrev pub IsLast : Vcpu → Course → Type 0
 IsLast start (Done vcpu stepped) = IsFine start vcpu stepped
 IsLast start (Release next) = IsLast start next
@@ -107,8 +113,8 @@ IsLast start (Read number address count next) = (bytes : List ℕ) → IsLast st
 IsLast start (Write number address bytes next) = IsLast start next
 IsLast start (Look address count next) = (found : Result (List ℕ) OutsideMemory) → IsLast start (next found)
 IsLast start (Drop flush next) = (dropped : Bool) → IsLast start (next dropped)
-IsLast start (In port width next) = (value : ℕ) → IsOver start (next value)
-IsLast start (Out write next) = (taken : Bool) → IsOver start (next taken)
+IsLast start (In port width next) = (value : ℕ) → IsDone start Went (next value)
+IsLast start (Out write next) = (taken : Bool) → IsDone start Went (next taken)
 IsLast start (ApicRead offset event next) = (answer : ApicAnswer) → IsLast start (next answer)
 IsLast start (ApicWrite offset value event next) = (answer : ApicAnswer) → IsLast start (next answer)
 IsLast start (Take next) = IsLast start next
@@ -116,27 +122,27 @@ IsLast start (Priority tpr next) = IsLast start next
 
 -- what follows a turn is over
 pub record Closes (start : Vcpu) (next : Came → Course) : Type 0 where
-  pub over : (c : Came) → IsFine start c.vcpu c.stepped → IsOver start (next c)
+  pub over : (c : Came) → IsFine start c.vcpu c.stepped → IsDone start c.stepped (next c)
 
 -- what follows a row: the turn is over where it went, and goes on where it was stopped
 pub record Finishes (start : Vcpu) (next : Result Came Stop → Course) : Type 0 where
-  pub over : (c : Came) → IsFine start c.vcpu c.stepped → IsOver start (next (Ok c))
+  pub over : (c : Came) → IsFine start c.vcpu c.stepped → IsDone start c.stepped (next (Ok c))
   pub stops : (reason : Stop) → IsLast start (next (Err reason))
 
-over_last : (start : Vcpu) (c : Course) → IsOver start c → IsLast start c
-over_last start (Done vcpu stepped) h = h
-over_last start (Release next) h = absurd h
-over_last start (Translate part next) h = absurd h
-over_last start (Read number address count next) h = absurd h
-over_last start (Write number address bytes next) h = absurd h
-over_last start (Look address count next) h = absurd h
-over_last start (Drop flush next) h = absurd h
-over_last start (In port width next) h = absurd h
-over_last start (Out write next) h = absurd h
-over_last start (ApicRead offset event next) h = absurd h
-over_last start (ApicWrite offset value event next) h = absurd h
-over_last start (Take next) h = absurd h
-over_last start (Priority tpr next) h = absurd h
+over_last : (start : Vcpu) (s : Stepped) (c : Course) → IsDone start s c → IsLast start c
+over_last start s (Done vcpu stepped) h = h.0
+over_last start s (Release next) h = absurd h
+over_last start s (Translate part next) h = absurd h
+over_last start s (Read number address count next) h = absurd h
+over_last start s (Write number address bytes next) h = absurd h
+over_last start s (Look address count next) h = absurd h
+over_last start s (Drop flush next) h = absurd h
+over_last start s (In port width next) h = absurd h
+over_last start s (Out write next) h = absurd h
+over_last start s (ApicRead offset event next) h = absurd h
+over_last start s (ApicWrite offset value event next) h = absurd h
+over_last start s (Take next) h = absurd h
+over_last start s (Priority tpr next) h = absurd h
 
 either : (start : Vcpu) (b : Bool) (x y : Course) → IsLast start x → IsLast start y → IsLast start (if b then x else y)
 either start true x y h k = h
@@ -144,14 +150,14 @@ either start false x y h k = k
 
 -- How a turn may come out.
 
-went_fine : (start vcpu : Vcpu) → level_in vcpu.inside ≡ level_in start.inside → IsFine start vcpu Went
-went_fine start vcpu e = record { level = e; registers = λ f. absurd (cc) }
+went_fine : (start vcpu : Vcpu) → kept_in vcpu.inside ≡ kept_in start.inside → IsFine start vcpu Went
+went_fine start vcpu e = record { kept = e; registers = λ f. absurd (cc) }
 
-left_fine : (start vcpu : Vcpu) (exit : Exit) (delivering : Option Trap) → level_in vcpu.inside ≡ level_in start.inside → IsFine start vcpu (Leaves exit delivering)
-left_fine start vcpu exit delivering e = record { level = e; registers = λ f. absurd (cc) }
+left_fine : (start vcpu : Vcpu) (exit : Exit) (delivering : Option Trap) → kept_in vcpu.inside ≡ kept_in start.inside → IsFine start vcpu (Leaves exit delivering)
+left_fine start vcpu exit delivering e = record { kept = e; registers = λ f. absurd (cc) }
 
 like_fine : (start vcpu : Vcpu) (stepped : Stepped) → IsLike start vcpu → IsFine start vcpu stepped
-like_fine start vcpu stepped e = record { level = e.level; registers = λ f. e.registers }
+like_fine start vcpu stepped e = record { kept = e.kept; registers = λ f. e.registers }
 
 -- Accesses.
 
@@ -249,15 +255,15 @@ along_last start held (Commit values more) next h = committed_last start held va
 
 exit_last : (start : Vcpu) (exit : Option Exit) (vcpu : Vcpu) (delivering : Option Trap) (next : Came → Course) (rest : Course) → IsLike start vcpu → Closes start next → IsLast start rest → IsLast start (unless_exit exit vcpu delivering next rest)
 exit_last start None vcpu delivering next rest e h k = k
-exit_last start (Some exit) vcpu delivering next rest e h k = over_last start _ (h.over (leaves vcpu exit delivering) (left_fine start vcpu exit delivering e.level))
+exit_last start (Some exit) vcpu delivering next rest e h k = over_last start _ _ (h.over (leaves vcpu exit delivering) (left_fine start vcpu exit delivering e.kept))
 
 shut_down_fine : (start : Vcpu) (asked : Bool) (vcpu : Vcpu) (trap : Trap) → IsLike start vcpu →
     IsFine start (if asked then leaves vcpu shutdown_exit (Some trap) else ends vcpu end.Shutdown).vcpu (if asked then leaves vcpu shutdown_exit (Some trap) else ends vcpu end.Shutdown).stepped
-shut_down_fine start true vcpu trap e = left_fine start vcpu shutdown_exit (Some trap) e.level
+shut_down_fine start true vcpu trap e = left_fine start vcpu shutdown_exit (Some trap) e.kept
 shut_down_fine start false vcpu trap e = like_fine start vcpu (Ends end.Shutdown) e
 
 shut_down_last : (start : Vcpu) (control : Option Control) (vcpu : Vcpu) (trap : Trap) (next : Came → Course) → IsLike start vcpu → Closes start next → IsLast start (next (shut_down control vcpu trap))
-shut_down_last start control vcpu trap next e h = over_last start _ (h.over (shut_down control vcpu trap) (shut_down_fine start (asks asks_shutdown control) vcpu trap e))
+shut_down_last start control vcpu trap next e h = over_last start _ _ (h.over (shut_down control vcpu trap) (shut_down_fine start (asks asks_shutdown control) vcpu trap e))
 
 combined_last : (start : Vcpu) (control : Option Control) (vcpu : Vcpu) (trap : Trap) (more : Trap → Course) (next : Came → Course) → IsLike start vcpu → Closes start next → ((other : Trap) → IsLast start (more other)) →
     (c : Combined) → IsLast start (on_combined control vcpu trap more next c)
@@ -266,16 +272,16 @@ combined_last start control vcpu trap more next e h k Shutdown = shut_down_last 
 
 on_delivery_last : (start : Vcpu) (control : Option Control) (vcpu : Vcpu) (trap : Trap) (more : Trap → Course) (next : Came → Course) → IsLike start vcpu → Closes start next → ((other : Trap) → IsLast start (more other)) →
     (r : Result Registers Stop) → IsLast start (on_delivery control vcpu trap more next r)
-on_delivery_last start control vcpu trap more next e h k (Ok r) = over_last start _ (h.over (came (delivered vcpu trap r) Went) (went_fine start (delivered vcpu trap r) e.level))
+on_delivery_last start control vcpu trap more next e h k (Ok r) = over_last start _ _ (h.over (came (delivered vcpu trap r) Went) (went_fine start (delivered vcpu trap r) e.kept))
 on_delivery_last start control vcpu trap more next e h k (Err (stop.Trap second)) =
     exit_last start (exit_under control second 0) vcpu (Some trap) next _ e h (combined_last start control vcpu trap more next e h k (combined trap second))
 on_delivery_last start control vcpu trap more next e h k (Err (stop.Nested code address)) =
-    over_last start _ (h.over (leaves vcpu (nested_exit code address) (Some trap)) (left_fine start vcpu (nested_exit code address) (Some trap) e.level))
-on_delivery_last start control vcpu trap more next e h k (Err (stop.Ended x)) = over_last start _ (h.over (ends vcpu x) (like_fine start vcpu (Ends x) e))
+    over_last start _ _ (h.over (leaves vcpu (nested_exit code address) (Some trap)) (left_fine start vcpu (nested_exit code address) (Some trap) e.kept))
+on_delivery_last start control vcpu trap more next e h k (Err (stop.Ended x)) = over_last start _ _ (h.over (ends vcpu x) (like_fine start vcpu (Ends x) e))
 
 delivering_last : (start : Vcpu) (more : ℕ) (control : Option Control) (vcpu : Vcpu) (from : Registers) (trap : Trap) (next : Came → Course) → IsLike start vcpu → Closes start next → IsLast start (delivering more control vcpu from trap next)
 unfolding delivering
-delivering_last start zero control vcpu from trap next e h = over_last start _ (h.over (ends vcpu end.Shutdown) (like_fine start vcpu (Ends end.Shutdown) e))
+delivering_last start zero control vcpu from trap next e h = over_last start _ _ (h.over (ends vcpu end.Shutdown) (like_fine start vcpu (Ends end.Shutdown) e))
 delivering_last start (suc more) control vcpu from trap next e h =
     along_last start [] (delivery trap from) _ (on_delivery_last start control vcpu trap _ next e h (λ other. delivering_last start more control vcpu (again vcpu from) other next e h))
 
@@ -286,8 +292,8 @@ fault_last start control vcpu trap next e h =
 
 stop_last : (start : Vcpu) (control : Option Control) (vcpu : Vcpu) (next : Came → Course) → IsLike start vcpu → Closes start next → (reason : Stop) → IsLast start (finished control vcpu next (Err reason))
 stop_last start control vcpu next e h (stop.Trap trap) = fault_last start control vcpu trap next e h
-stop_last start control vcpu next e h (stop.Nested code address) = over_last start _ (h.over (leaves vcpu (nested_exit code address) None) (left_fine start vcpu (nested_exit code address) None e.level))
-stop_last start control vcpu next e h (stop.Ended x) = over_last start _ (h.over (ends vcpu x) (like_fine start vcpu (Ends x) e))
+stop_last start control vcpu next e h (stop.Nested code address) = over_last start _ _ (h.over (leaves vcpu (nested_exit code address) None) (left_fine start vcpu (nested_exit code address) None e.kept))
+stop_last start control vcpu next e h (stop.Ended x) = over_last start _ _ (h.over (ends vcpu x) (like_fine start vcpu (Ends x) e))
 
 finishes : (start : Vcpu) (control : Option Control) (vcpu : Vcpu) (next : Came → Course) → IsLike start vcpu → Closes start next → Finishes start (finished control vcpu next)
 finishes start control vcpu next e h = record { over = λ c f. h.over c f; stops = stop_last start control vcpu next e h }
@@ -304,16 +310,16 @@ interrupt_last start d vector software next e f =
     exit_last start (interrupt_exit_of d vector software) d.vcpu None _ _ e (closes start next f) (delivering_last start 4 d.control d.vcpu _ _ _ e (closes start next f))
 
 on_return_last : (start : Vcpu) (d : Doing) (next : Result Came Stop → Course) → IsLike start d.vcpu → Finishes start next → (r : Result Registers Stop) → IsLast start (on_return d next r)
-on_return_last start d next e f (Ok r) = over_last start _ (f.over (back d r) (went_fine start _ e.level))
+on_return_last start d next e f (Ok r) = over_last start _ _ (f.over (back d r) (went_fine start _ e.kept))
 on_return_last start d next e f (Err reason) = f.stops reason
 
 return_last : (start : Vcpu) (d : Doing) (next : Result Came Stop → Course) → IsLike start d.vcpu → Finishes start next → IsLast start (with_return d next)
 unfolding with_return
 return_last start d next e f = along_last start [] (coming_back d.vcpu.registers) _ (on_return_last start d next e f)
 
-where_done_over : (start : Vcpu) (d : Doing) (r : Registers) (next : Result Came Stop → Course) → IsLike start d.vcpu → Finishes start next → (b : Bool) → IsOver start (next (Ok (where_done d r b)))
-where_done_over start d r next e f true = f.over (went d r) (went_fine start _ e.level)
-where_done_over start d r next e f false = f.over (came d.vcpu Went) (went_fine start _ e.level)
+where_done_over : (start : Vcpu) (d : Doing) (r : Registers) (next : Result Came Stop → Course) → IsLike start d.vcpu → Finishes start next → (b : Bool) → IsDone start Went (next (Ok (where_done d r b)))
+where_done_over start d r next e f true = f.over (went d r) (went_fine start _ e.kept)
+where_done_over start d r next e f false = f.over (came d.vcpu Went) (went_fine start _ e.kept)
 
 output_last : (start : Vcpu) (d : Doing) (r : Registers) (write : PortWrite) (next : Result Came Stop → Course) → IsLike start d.vcpu → Finishes start next → IsLast start (with_output d r write next)
 unfolding with_output
@@ -321,28 +327,28 @@ output_last start d r write next e f = where_done_over start d r next e f
 
 flush_last : (start : Vcpu) (d : Doing) (r : Registers) (flush : Flush) (next : Result Came Stop → Course) → IsLike start d.vcpu → Finishes start next → IsLast start (with_flush d r flush next)
 unfolding with_flush
-flush_last start d r flush next e f = λ b. over_last start _ (where_done_over start d r next e f b)
+flush_last start d r flush next e f = λ b. over_last start _ _ (where_done_over start d r next e f b)
 
 went_last : (start : Vcpu) (d : Doing) (r : Registers) (next : Result Came Stop → Course) → IsLike start d.vcpu → Finishes start next → IsLast start (going d r next)
-went_last start d r next e f = over_last start _ (f.over (went d r) (went_fine start _ e.level))
+went_last start d r next e f = over_last start _ _ (f.over (went d r) (went_fine start _ e.kept))
 
-live_tpr_level : (o : Option Inside) (tpr : ℕ) → level_in (with_live_tpr tpr o) ≡ level_in o
-live_tpr_level None tpr = refl
-live_tpr_level (Some i) tpr = refl
+live_tpr_kept : (o : Option Inside) (tpr : ℕ) → kept_in (with_live_tpr tpr o) ≡ kept_in o
+live_tpr_kept None tpr = refl
+live_tpr_kept (Some i) tpr = refl
 
-live_gif_level : (o : Option Inside) (gif : Bool) → level_in (with_live_gif gif o) ≡ level_in o
-live_gif_level None gif = refl
-live_gif_level (Some i) gif = refl
+live_gif_kept : (o : Option Inside) (gif : Bool) → kept_in (with_live_gif gif o) ≡ kept_in o
+live_gif_kept None gif = refl
+live_gif_kept (Some i) gif = refl
 
-live_irq_level : (o : Option Inside) (irq : Bool) → level_in (with_live_irq irq o) ≡ level_in o
-live_irq_level None irq = refl
-live_irq_level (Some i) irq = refl
+live_irq_kept : (o : Option Inside) (irq : Bool) → kept_in (with_live_irq irq o) ≡ kept_in o
+live_irq_kept None irq = refl
+live_irq_kept (Some i) irq = refl
 
 priority_last : (start : Vcpu) (d : Doing) (r : Registers) (value : ℕ) (next : Result Came Stop → Course) → IsLike start d.vcpu → Finishes start next → IsLast start (with_priority d r value next)
 unfolding with_priority
 priority_last start d r value next e f =
     either start (masks_interrupts d.control) (next (Ok (came (record d.vcpu { registers = r; inside = with_live_tpr value d.vcpu.inside }) Went))) (Priority (16 * value) (going d r next))
-    (over_last start _ (f.over _ (went_fine start (record d.vcpu { registers = r; inside = with_live_tpr value d.vcpu.inside }) (live_tpr_level d.vcpu.inside value ∙ e.level))))
+    (over_last start _ _ (f.over _ (went_fine start (record d.vcpu { registers = r; inside = with_live_tpr value d.vcpu.inside }) (live_tpr_kept d.vcpu.inside value ∙ e.kept))))
     (went_last start d r next e f)
 
 dropped_last : (start : Vcpu) (d : Doing) (next : Result Came Stop → Course) → IsLike start d.vcpu → Finishes start next → IsLast start (with_page_dropped d next)
@@ -355,14 +361,14 @@ dropped_last start d next e f =
 gif_fine : (start : Vcpu) (owned gif : Bool) (d : Doing) → IsLike start d.vcpu →
     IsFine start (if owned then came (record d.vcpu { registers = behind d; inside = with_live_gif gif d.vcpu.inside }) Went else came (record d.vcpu { registers = behind d; gif = gif }) Went).vcpu
     (if owned then came (record d.vcpu { registers = behind d; inside = with_live_gif gif d.vcpu.inside }) Went else came (record d.vcpu { registers = behind d; gif = gif }) Went).stepped
-gif_fine start true gif d e = went_fine start _ (live_gif_level d.vcpu.inside gif ∙ e.level)
-gif_fine start false gif d e = went_fine start _ e.level
+gif_fine start true gif d e = went_fine start _ (live_gif_kept d.vcpu.inside gif ∙ e.kept)
+gif_fine start false gif d e = went_fine start _ e.kept
 
 gif_last : (start : Vcpu) (gif : Bool) (d : Doing) (next : Result Came Stop → Course) → IsLike start d.vcpu → Finishes start next → IsLast start (next (Ok (with_gif gif d)))
-gif_last start gif d next e f = over_last start _ (f.over (with_gif gif d) (gif_fine start (owns_gif d.control) gif d e))
+gif_last start gif d next e f = over_last start _ _ (f.over (with_gif gif d) (gif_fine start (owns_gif d.control) gif d e))
 
 moves_last : (start : Vcpu) (d : Doing) (o : Op) (next : Result Came Stop → Course) → IsLike start d.vcpu → Finishes start next → IsLast start (next (Ok (came d.vcpu (Moves o d.next_rip))))
-moves_last start d o next e f = over_last start _ (f.over (came d.vcpu (Moves o d.next_rip)) (like_fine start d.vcpu (Moves o d.next_rip) e))
+moves_last start d o next e f = over_last start _ _ (f.over (came d.vcpu (Moves o d.next_rip)) (like_fine start d.vcpu (Moves o d.next_rip) e))
 
 svm_last : (start : Vcpu) (d : Doing) (o : Op) (next : Result Came Stop → Course) → IsLike start d.vcpu → Finishes start next → IsLast start (with_svm o d next)
 unfolding with_svm
@@ -375,11 +381,11 @@ outside_last : (start : Vcpu) (d : Doing) (plan : List PlannedAccess) (numbers r
     IsLast start (with_outside d plan numbers results r o next)
 unfolding with_outside
 outside_last start d plan numbers results r outside.None next e f = results_last start 0 plan numbers results _ (went_last start d r next e f)
-outside_last start d plan numbers results r outside.Halt next e f = over_last start _ (f.over (came (record d.vcpu { registers = r; halted = true }) Went) (went_fine start _ e.level))
+outside_last start d plan numbers results r outside.Halt next e f = over_last start _ _ (f.over (came (record d.vcpu { registers = r; halted = true }) Went) (went_fine start _ e.kept))
 outside_last start d plan numbers results r outside.Shadow next e f = went_last start d (record r { shadow = true }) next e f
 outside_last start d plan numbers results r (outside.Interrupt vector software) next e f = interrupt_last start d vector software next e f
 outside_last start d plan numbers results r outside.Return next e f = return_last start d next e f
-outside_last start d plan numbers results r (outside.PortRead port width) next e f = λ value. f.over _ (went_fine start _ e.level)
+outside_last start d plan numbers results r (outside.PortRead port width) next e f = λ value. f.over _ (went_fine start _ e.kept)
 outside_last start d plan numbers results r (outside.PortWrite port width value) next e f = output_last start d r _ next e f
 outside_last start d plan numbers results r outside.DropLocal next e f = flush_last start d r _ next e f
 outside_last start d plan numbers results r outside.DropAsid next e f = flush_last start d r _ next e f
@@ -391,7 +397,7 @@ outside_last start d plan numbers results r (outside.Ends x) next e f = f.stops 
 -- Rows.
 
 on_applied_last : (start : Vcpu) (vcpu : Vcpu) (plan : List PlannedAccess) (numbers : List ℕ) (next : Result Came Stop → Course) → IsLike start vcpu → Finishes start next → (r : Result State Trap) → IsLast start (on_applied vcpu plan numbers next r)
-on_applied_last start vcpu plan numbers next e f (Ok s) = results_last start 0 plan numbers s.results _ (over_last start _ (f.over (came (after_row vcpu s) Went) (went_fine start _ e.level)))
+on_applied_last start vcpu plan numbers next e f (Ok s) = results_last start 0 plan numbers s.results _ (over_last start _ _ (f.over (came (after_row vcpu s) Went) (went_fine start _ e.kept)))
 on_applied_last start vcpu plan numbers next e f (Err trap) = f.stops (stop.Trap trap)
 
 on_values_last : (start : Vcpu) (d : Doing) (plan : List PlannedAccess) (next : Result Came Stop → Course) → IsLike start d.vcpu → Finishes start next → (r : Result Words Stop) → IsLast start (on_values d plan next r)
@@ -411,20 +417,20 @@ on_register_read_last : (start : Vcpu) (d : Doing) (offset : ℕ) (next : Result
 on_register_read_last start d offset next more e f k (Value value) = k value
 on_register_read_last start d offset next more e f k Stored = f.stops (stop.Ended (end.ApicAccess offset))
 on_register_read_last start d offset next more e f k Unoffered = f.stops (stop.Ended (end.ApicAccess offset))
-on_register_read_last start d offset next more e f k (Before exit) = over_last start _ (f.over (leaves d.vcpu exit None) (left_fine start d.vcpu exit None e.level))
-on_register_read_last start d offset next more e f k (Behind exit) = over_last start _ (f.over (leaves d.vcpu exit None) (left_fine start d.vcpu exit None e.level))
+on_register_read_last start d offset next more e f k (Before exit) = over_last start _ _ (f.over (leaves d.vcpu exit None) (left_fine start d.vcpu exit None e.kept))
+on_register_read_last start d offset next more e f k (Behind exit) = over_last start _ _ (f.over (leaves d.vcpu exit None) (left_fine start d.vcpu exit None e.kept))
 
-on_register_written_last : (start : Vcpu) (d : Doing) (offset : ℕ) (vcpu : Vcpu) (next : Result Came Stop → Course) → IsLike start d.vcpu → level_in vcpu.inside ≡ level_in start.inside → Finishes start next → (answer : ApicAnswer) →
+on_register_written_last : (start : Vcpu) (d : Doing) (offset : ℕ) (vcpu : Vcpu) (next : Result Came Stop → Course) → IsLike start d.vcpu → kept_in vcpu.inside ≡ kept_in start.inside → Finishes start next → (answer : ApicAnswer) →
     IsLast start (next (on_register_written d offset vcpu answer))
 on_register_written_last start d offset vcpu next e g f (Value value) = f.stops (stop.Ended (end.ApicAccess offset))
-on_register_written_last start d offset vcpu next e g f Stored = over_last start _ (f.over (came vcpu Went) (went_fine start vcpu g))
+on_register_written_last start d offset vcpu next e g f Stored = over_last start _ _ (f.over (came vcpu Went) (went_fine start vcpu g))
 on_register_written_last start d offset vcpu next e g f Unoffered = f.stops (stop.Ended (end.ApicAccess offset))
-on_register_written_last start d offset vcpu next e g f (Before exit) = over_last start _ (f.over (leaves d.vcpu exit None) (left_fine start d.vcpu exit None e.level))
-on_register_written_last start d offset vcpu next e g f (Behind exit) = over_last start _ (f.over (leaves vcpu exit None) (left_fine start vcpu exit None g))
+on_register_written_last start d offset vcpu next e g f (Before exit) = over_last start _ _ (f.over (leaves d.vcpu exit None) (left_fine start d.vcpu exit None e.kept))
+on_register_written_last start d offset vcpu next e g f (Behind exit) = over_last start _ _ (f.over (leaves vcpu exit None) (left_fine start vcpu exit None g))
 
 register_written_last : (start : Vcpu) (d : Doing) (offset : ℕ) (next : Result Came Stop → Course) → IsLike start d.vcpu → Finishes start next → (r : Result State Trap) → IsLast start (register_written_by d offset next r)
 register_written_last start d offset next e f (Err trap) = f.stops (stop.Trap trap)
-register_written_last start d offset next e f (Ok s) = on_register_written_last start d offset (after_row d.vcpu s) next e e.level f
+register_written_last start d offset next e f (Ok s) = on_register_written_last start d offset (after_row d.vcpu s) next e e.kept f
 
 at_register_last : (start : Vcpu) (d : Doing) (offset : ℕ) (next : Result Came Stop → Course) → IsLike start d.vcpu → Finishes start next → IsLast start (at_register d offset next)
 unfolding at_register
@@ -477,14 +483,14 @@ unlocked_last start d next e f =
 on_map_last : (start : Vcpu) (d : Doing) (test : List ℕ → Bool) (exit : Exit) (next : Result Came Stop → Course) (rest : Course) → IsLike start d.vcpu → Finishes start next → IsLast start rest → (found : Result (List ℕ) OutsideMemory) →
     IsLast start (on_map d test exit next rest found)
 on_map_last start d test exit next rest e f k (Ok bytes) =
-    either start (test bytes) (next (Ok (leaves d.vcpu exit None))) rest (over_last start _ (f.over (leaves d.vcpu exit None) (left_fine start d.vcpu exit None e.level))) k
+    either start (test bytes) (next (Ok (leaves d.vcpu exit None))) rest (over_last start _ _ (f.over (leaves d.vcpu exit None) (left_fine start d.vcpu exit None e.kept))) k
 on_map_last start d test exit next rest e f k (Err outside) = f.stops (stop.Ended (end.OutsideMemory outside.address))
 
 ports_last : (start : Vcpu) (d : Doing) (fields : Fields) (next : Result Came Stop → Course) (rest : Course) → IsLike start d.vcpu → Finishes start next → IsLast start rest → IsLast start (unless_ports d fields next rest)
 ports_last start d fields next rest e f k = either start (asks_ports fields) _ rest (λ found. on_map_last start d _ _ next rest e f k found) k
 
 at_msr_last : (start : Vcpu) (d : Doing) (fields : Fields) (next : Result Came Stop → Course) (rest : Course) → IsLike start d.vcpu → Finishes start next → IsLast start rest → (place : Option ℕ) → IsLast start (at_msr d fields next rest place)
-at_msr_last start d fields next rest e f k None = over_last start _ (f.over (leaves d.vcpu _ None) (left_fine start d.vcpu _ None e.level))
+at_msr_last start d fields next rest e f k None = over_last start _ _ (f.over (leaves d.vcpu _ None) (left_fine start d.vcpu _ None e.kept))
 at_msr_last start d fields next rest e f k (Some place) = λ found. on_map_last start d _ _ next rest e f k found
 
 msrs_last : (start : Vcpu) (d : Doing) (fields : Fields) (next : Result Came Stop → Course) (rest : Course) → IsLike start d.vcpu → Finishes start next → IsLast start rest → IsLast start (unless_msrs d fields next rest)
@@ -558,14 +564,14 @@ instruction_last start control facts vcpu next e f = fetched_last start vcpu _ _
 
 asked_last : (start : Vcpu) (asked : Bool) (vcpu : Vcpu) (exit : Exit) (next : Came → Course) (rest : Course) → IsLike start vcpu → Closes start next → IsLast start rest → IsLast start (if asked then next (leaves vcpu exit None) else rest)
 asked_last start asked vcpu exit next rest e h k =
-    either start asked (next (leaves vcpu exit None)) rest (over_last start _ (h.over (leaves vcpu exit None) (left_fine start vcpu exit None e.level))) k
+    either start asked (next (leaves vcpu exit None)) rest (over_last start _ _ (h.over (leaves vcpu exit None) (left_fine start vcpu exit None e.kept))) k
 
 -- a vcpu that has taken what was pending has its registers
-like_by : (start vcpu other : Vcpu) → other.registers ≡ vcpu.registers → level_in other.inside ≡ level_in vcpu.inside → IsLike start vcpu → IsLike start other
-like_by start vcpu other r l e = record { level = l ∙ e.level; registers = r ∙ e.registers }
+like_by : (start vcpu other : Vcpu) → other.registers ≡ vcpu.registers → kept_in other.inside ≡ kept_in vcpu.inside → IsLike start vcpu → IsLike start other
+like_by start vcpu other r l e = record { kept = l ∙ e.kept; registers = r ∙ e.registers }
 
 inject_last : (start : Vcpu) (control : Option Control) (vcpu : Vcpu) (held : Option Trap) (next : Came → Course) → IsLike start vcpu → Closes start next → IsLast start (inject control vcpu held next)
-inject_last start control vcpu None next e h = over_last start _ (h.over (came vcpu Went) (went_fine start vcpu e.level))
+inject_last start control vcpu None next e h = over_last start _ _ (h.over (came vcpu Went) (went_fine start vcpu e.kept))
 inject_last start control vcpu (Some trap) next e h =
     delivering_last start 4 control (record vcpu { held = None }) vcpu.registers trap next (like_by start vcpu (record vcpu { held = None }) refl refl e) h
 
@@ -575,7 +581,7 @@ nmi_last start control vcpu next e h =
     (delivering_last start 4 control (record vcpu { nmi = false }) vcpu.registers _ next (like_by start vcpu (record vcpu { nmi = false }) refl refl e) h)
 
 interrupt_taken_last : (start : Vcpu) (control : Option Control) (vcpu : Vcpu) (vector : Option ℕ) (next : Came → Course) → IsLike start vcpu → Closes start next → IsLast start (take_interrupt control vcpu vector next)
-interrupt_taken_last start control vcpu None next e h = over_last start _ (h.over (came vcpu Went) (went_fine start vcpu e.level))
+interrupt_taken_last start control vcpu None next e h = over_last start _ _ (h.over (came vcpu Went) (went_fine start vcpu e.kept))
 interrupt_taken_last start control vcpu (Some vector) next e h =
     asked_last start (asks asks_interrupts control) vcpu interrupt_exit next _ e h (delivering_last start 4 control vcpu vcpu.registers _ next e h)
 
@@ -583,7 +589,7 @@ virtual_last : (start : Vcpu) (control : Option Control) (vcpu : Vcpu) (next : C
 virtual_last start control vcpu next e h =
     asked_last start (asks asks_virtual control) vcpu virtual_exit next _ e h
     (delivering_last start 4 control (record vcpu { inside = with_live_irq false vcpu.inside }) vcpu.registers _ next
-    (like_by start vcpu (record vcpu { inside = with_live_irq false vcpu.inside }) refl (live_irq_level vcpu.inside false) e) h)
+    (like_by start vcpu (record vcpu { inside = with_live_irq false vcpu.inside }) refl (live_irq_kept vcpu.inside false) e) h)
 
 work_last : (start : Vcpu) (work : Work) (control : Option Control) (facts : Facts) (vcpu : Vcpu) (interrupt : Option ℕ) (next : Came → Course) → IsLike start vcpu → Closes start next →
     IsLast start (course_of work control facts vcpu interrupt next)
@@ -592,9 +598,9 @@ work_last start Inject control facts vcpu interrupt next e h = inject_last start
 work_last start Nmi control facts vcpu interrupt next e h = nmi_last start control vcpu next e h
 work_last start Interrupt control facts vcpu interrupt next e h = interrupt_taken_last start control vcpu interrupt next e h
 work_last start Virtual control facts vcpu interrupt next e h = virtual_last start control vcpu next e h
-work_last start Nothing control facts vcpu interrupt next e h = over_last start _ (h.over (came vcpu Went) (went_fine start vcpu e.level))
+work_last start Nothing control facts vcpu interrupt next e h = over_last start _ _ (h.over (came vcpu Went) (went_fine start vcpu e.kept))
 work_last start OfInstruction control facts vcpu interrupt next e h = instruction_last start control facts vcpu _ e (finishes start control vcpu next e h)
 
 pub turn_last : (control : Option Control) (facts : Facts) (vcpu : Vcpu) (interrupt : Option ℕ) → IsLast vcpu (turn_course control facts vcpu interrupt)
 turn_last control facts vcpu interrupt =
-    work_last vcpu (next_work (turn_by control vcpu interrupt)) control facts vcpu interrupt done (record { level = refl; registers = refl }) (record { over = λ c f. f })
+    work_last vcpu (next_work (turn_by control vcpu interrupt)) control facts vcpu interrupt done (record { kept = refl; registers = refl }) (record { over = λ c f. (f, refl) })

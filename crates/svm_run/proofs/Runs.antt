@@ -29,11 +29,11 @@ unfolding completed outcome_after
 events-completed bus image script whole =
     omega (arith, run-counted (world_of image) bus (events_of image.cpus script), starts-at-0 image, whole)
 
--- at most 896 reads for each event
-pub reads-completed : (old new : ℕ) (bus : Bus) (image : Image) (script : Script) → length (events_of image.cpus script) ≡ script.events → new ≤ old + 896 * script.events →
-    new ≤ old + 896 * (completed bus (job image script)).events
+-- at most 968 reads for each event
+pub reads-completed : (old new : ℕ) (bus : Bus) (image : Image) (script : Script) → length (events_of image.cpus script) ≡ script.events → new ≤ old + 968 * script.events →
+    new ≤ old + 968 * (completed bus (job image script)).events
 reads-completed old new bus image script whole h =
-    let P : ℕ → Type 0 = λ count. new ≤ old + 896 * count in
+    let P : ℕ → Type 0 = λ count. new ≤ old + 968 * count in
     subst P (sym (events-completed bus image script whole)) h
 
 -- The bus behind some first events.

@@ -17,7 +17,7 @@ use Rattle.svm_run.specs.declared.running.RunFault.TheVariants.{NoMemory, Bus, S
 use Rattle.svm_run.proofs.Events.{led, led_next}
 
 -- a turn reads memory, or a dump, and never both
-pub reads-few : (run : Bool) (old mid new : ℕ) → mid ≤ old + 256 → (run ≡ true → mid ≡ old) → new ≤ mid + 896 → (run ≡ false → new ≡ mid) → new ≤ old + 896
+pub reads-few : (run : Bool) (old mid new : ℕ) → mid ≤ old + 256 → (run ≡ true → mid ≡ old) → new ≤ mid + 968 → (run ≡ false → new ≡ mid) → new ≤ old + 968
 reads-few true old mid new h still k quiet = omega (arith, still refl, k)
 reads-few false old mid new h still k quiet = omega (arith, h, quiet refl)
 

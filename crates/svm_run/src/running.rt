@@ -30,7 +30,7 @@ pub enum RunFault {
     Sink(SinkRefusal),
 }
 
-/// Does an event, and prints what it prints. At most 896 reads are counted.
+/// Does an event, and prints what it prints. At most 968 reads are counted.
 #[tactic(auto, using(crate::proofs::Stops::stops, port_bus::proofs::Counts::counts))]
 fn run_event<B: Ports, K: Sink, L: Ledger>(
     alloc: Global,
@@ -52,7 +52,7 @@ fn run_event<B: Ports, K: Sink, L: Ledger>(
     ensures shape { world_shape machine.new.world ≡ world_shape machine.old.world }
     ensures number { OnOk result (machine.new.world.event ≡ machine.old.world.event + 1) }
     ensures going { OnOk result (machine.new.stopped ≡ false) }
-    ensures steps { steps.new ≤ steps.old + 896 }
+    ensures steps { steps.new ≤ steps.old + 968 }
     ensures later { steps.old ≤ steps.new }
     ensures later_faults { K.faults sink.old ≤ K.faults sink.new }
     ensures later_refusals { K.refusals sink.old ≤ K.refusals sink.new }
@@ -73,7 +73,7 @@ fn run_event<B: Ports, K: Sink, L: Ledger>(
 }
 
 /// Runs the events of a script and prints the line of each dump as it comes: all of them, or up to the first that the bus
-/// refuses, whose text there is no memory for, or whose line the sink refuses. At most 896 reads are counted for each.
+/// refuses, whose text there is no memory for, or whose line the sink refuses. At most 968 reads are counted for each.
 #[tactic(auto, using(crate::proofs::Events::events, port_bus::proofs::Counts::counts))]
 pub fn run_events<B: Ports, K: Sink, L: Ledger>(
     alloc: Global,
@@ -96,7 +96,7 @@ pub fn run_events<B: Ports, K: Sink, L: Ledger>(
     ensures cause { IfErr result (λ fault. IsOfCounts fault (B.faults bus.old) (B.faults bus.new) (K.faults sink.old) (K.faults sink.new)) }
     ensures shape { world_shape machine.new.world ≡ world_shape machine.old.world }
     ensures number { OnOk result (machine.new.world.event ≡ script.now.events) }
-    ensures steps { steps.new ≤ steps.old + 896 * script.now.events }
+    ensures steps { steps.new ≤ steps.old + 968 * script.now.events }
     ensures later { steps.old ≤ steps.new }
     ensures later_faults { K.faults sink.old ≤ K.faults sink.new }
     ensures later_refusals { K.refusals sink.old ≤ K.refusals sink.new }

@@ -107,8 +107,8 @@ fn run_job<B: Ports, K: Sink, L: Ledger>(
     ensures ends { EndsRun (meaning_of result) (status_line result) (job image.now script.now) (B.bus bus.old) (B.bus bus.new) (K.written sink.old) (K.written sink.new)
         (Rose (K.faults sink.old) (K.faults sink.new) ⊎ Rose (K.refusals sink.old) (K.refusals sink.new)) }
     ensures cause { (s t : ℕ) → HasCause (meaning_of result).blame s t (K.faults sink.old) (K.faults sink.new) (B.faults bus.old) (B.faults bus.new) }
-    ensures steps { steps.new ≤ steps.old + 896 * (completed (B.bus bus.old) (job image.now script.now)).events }
-    ensures most_steps { steps.new ≤ steps.old + 939524096 }
+    ensures steps { steps.new ≤ steps.old + 968 * (completed (B.bus bus.old) (job image.now script.now)).events }
+    ensures most_steps { steps.new ≤ steps.old + 1015021568 }
 {
     let Ok(mut machine) = PlainMachine::open(alloc, image) else {
         return refuse(sink, Status::NoMemory);
@@ -154,11 +154,11 @@ pub fn svm_run<H: Shelf, K: Sink, L: Ledger, M: Ledger>(
     ensures line { IsBeforeRun result → ReceivesLine (K.written sink.old) (K.written sink.new) (status_line result)
         (Rose (K.faults sink.old) (K.faults sink.new) ⊎ Rose (K.refusals sink.old) (K.refusals sink.new)) }
 
-    // At most 896 reads are counted for each event, of which there are at most 1,048,576; the shelf is called for as many
+    // At most 968 reads are counted for each event, of which there are at most 1,048,576; the shelf is called for as many
     // bytes as its two files may have at most, and for each file twice more.
     ensures steps { IfSome (H.files shelf.old) (λ _.
-        steps.new ≤ steps.old + 896 * (outcome_of (⟦<Bus as BusState>⟧.bus bus.old) (H.files shelf.old) (map (λ w. w.now) words.now)).events) }
-    ensures most_steps { steps.new ≤ steps.old + 939524096 }
+        steps.new ≤ steps.old + 968 * (outcome_of (⟦<Bus as BusState>⟧.bus bus.old) (H.files shelf.old) (map (λ w. w.now) words.now)).events) }
+    ensures most_steps { steps.new ≤ steps.old + 1015021568 }
     ensures calls { H.calls shelf.new ≤ H.calls shelf.old + 68157444 }
     ensures entries { entries.new ≡ entries.old }
 {

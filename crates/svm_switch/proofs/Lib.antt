@@ -1,3 +1,4 @@
+pub mod LeftLemmas
 pub mod MovedLemmas
 pub mod SavedLemmas
 pub mod StoredLemmas

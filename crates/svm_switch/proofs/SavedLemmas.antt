@@ -6,7 +6,7 @@ use Rattle.svm_model.specs.Svm.Vmcb.{FieldValue, with_field, with_fields}
 use Rattle.svm_model.specs.declared.windows.GuestWindow.{GuestWindow}
 use Rattle.svm_switch.specs.Saved.{AreSaved}
 
-with_fields-append : (vmcb : ℕ) (a b : List FieldValue) (memory : List ℕ) → with_fields vmcb (a ++ b) memory ≡ with_fields vmcb b (with_fields vmcb a memory)
+pub with_fields-append : (vmcb : ℕ) (a b : List FieldValue) (memory : List ℕ) → with_fields vmcb (a ++ b) memory ≡ with_fields vmcb b (with_fields vmcb a memory)
 unfolding with_fields
 with_fields-append vmcb [] b memory = refl
 with_fields-append vmcb (s ∷ a) b memory = with_fields-append vmcb a b (with_field vmcb s.field s.value memory)

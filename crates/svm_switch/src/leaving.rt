@@ -1,7 +1,7 @@
 // What a #VMEXIT stores and brings back.
 ghost use Rattle.std.specs.Prelude.{◌≡◌, if◌then◌else◌};
 ghost use Rattle.svm_model.specs.Svm.Vmcb.{has_nested_paging as nested_paging, with_values};
-ghost use Rattle.svm_model.specs.Svm.Vmexit.{brought_back, stored_on_exit};
+ghost use Rattle.svm_model.specs.Svm.Vmexit.{brought_back, host_registers, stored_on_exit, stored_state};
 
 use crate::entering::has_nested_paging;
 use crate::stores::{store_controls, store_exit, store_flow, store_pat, store_segments};
@@ -15,9 +15,9 @@ fn pat_back(nested: bool, kept: u64, pat: u64) -> u64
     if nested { kept } else { pat }
 }
 
-/// Brings back what was kept. DR7 is reset, CPL is 0, and there is no interrupt shadow.
+/// Brings back what was kept.
 #[tactic(auto, unfolding(svm_model::specs::Svm::Vmexit::brought_back))]
-fn bring_back(nested: bool, kept: &Registers, registers: &mut Registers)
+pub(crate) fn bring_back(nested: bool, kept: &Registers, registers: &mut Registers)
     ensures { registers.new ≡ brought_back nested kept.now registers.old }
 {
     registers.general[4] = kept.general[4];
@@ -35,15 +35,34 @@ fn bring_back(nested: bool, kept: &Registers, registers: &mut Registers)
     registers.gdtr = kept.gdtr;
     registers.idtr = kept.idtr;
     registers.pat = pat_back(nested, kept.pat, registers.pat);
+    reset(registers);
+}
+
+/// What a processor is behind each exit: DR7 is reset, CPL is 0, and there is no interrupt shadow.
+pub(crate) fn reset(registers: &mut Registers)
+    ensures { registers.new ≡ host_registers registers.old }
+{
     registers.dr7 = 0x400;
     registers.cpl = 0;
     registers.shadow = false;
 }
 
+/// Stores the guest's state in the fields of its VMCB: all but the exit and the virtual-interrupt word.
+#[tactic(auto, unfolding(svm_model::specs::Svm::Vmexit::stored_state))]
+pub(crate) fn store_state(nested: bool, registers: &Registers, fields: &mut Fields)
+    ensures { fields.new ≡ with_values (stored_state nested registers.now fields.old) fields.old }
+{
+    let shadow = fields.value(Field::Shadow);
+    store_controls(registers, fields);
+    store_flow(registers, shadow, fields);
+    store_segments(registers, fields);
+    store_pat(nested, registers, fields);
+}
+
 /// Stores the guest's state in the fields of its VMCB, with the exit and the event that was in delivery, and brings back
 /// what VMRUN kept (volume 2, '#VMEXIT'). The virtual-interrupt word stays as it is: its live bits are the caller's to put
 /// there, before or behind this call.
-#[tactic(auto, unfolding(svm_model::specs::Svm::Vmexit::stored_on_exit, svm_model::specs::Svm::Vmexit::stored_state))]
+#[tactic(auto, unfolding(svm_model::specs::Svm::Vmexit::stored_on_exit))]
 pub fn leave(
     registers: &mut Registers,
     kept: &Kept,
@@ -55,12 +74,8 @@ pub fn leave(
     ensures fields { fields.new ≡ with_values (stored_on_exit registers.old exit.now delivering fields.old) fields.old }
 {
     let nested = has_nested_paging(fields);
-    let shadow = fields.value(Field::Shadow);
     let event = fields.value(Field::EventInj);
-    store_controls(registers, fields);
-    store_flow(registers, shadow, fields);
-    store_segments(registers, fields);
-    store_pat(nested, registers, fields);
+    store_state(nested, registers, fields);
     store_exit(exit, delivering, event, fields);
     bring_back(nested, &kept.registers, registers);
 }

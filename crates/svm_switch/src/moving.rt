@@ -13,13 +13,12 @@ use vmcb_layout::{Fields, read_fields};
 
 /// Where the page of a VMCB is not all in the guest's memory: the first address outside, from its field of FS on.
 fn first_outside(window: GuestWindow, address: u64) -> Option<OutsideMemory>
-    requires { address < 2 ^ 40 }
     ensures outside { (bytes : List ℕ) → length bytes ≡ window.size → result ≡ moved_at bytes address }
     ensures inside { IfNone result (address + 4096 ≤ window.size) }
 {
-    if address + 4096 > window.size {
+    if window.size < 4096 || address > window.size - 4096 {
         Some(OutsideMemory {
-            address: (address + 0x440).max(window.size),
+            address: address.wrapping_add(0x440).max(window.size),
         })
     } else {
         None
@@ -57,7 +56,6 @@ pub fn vmload<L: Ledger>(
     steps: &mut Steps<L>,
 ) -> Result<(), OutsideMemory>
     requires window { IsWithin window memory.now.bytes }
-    requires address { address < 2 ^ 40 }
     ensures load { MatchOption (moved_at (guest_of window memory.now.bytes) address)
         ((result ≡ Ok tt) × (registers.new ≡ vmloaded (fields_in (guest_of window memory.now.bytes) address) registers.old))
         (λ outside. (result ≡ Err outside) × (registers.new ≡ registers.old)) }
@@ -85,7 +83,6 @@ pub fn vmsave(
     address: u64,
 ) -> Result<(), OutsideMemory>
     requires window { IsWithin window memory.old.bytes }
-    requires address { address < 2 ^ 40 }
     ensures save { MatchOption (moved_at (guest_of window memory.old.bytes) address)
         ((result ≡ Ok tt) × (guest_of window memory.new.bytes ≡ with_fields address (vmsaved registers.now) (guest_of window memory.old.bytes)))
         (λ outside. (result ≡ Err outside) × (memory.new ≡ memory.old)) }

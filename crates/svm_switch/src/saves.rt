@@ -3,8 +3,8 @@ ghost use Rattle.std.specs.Prelude.{◌≡◌, ◌+◌, ◌^◌, ◌<◌, ◌≤
 ghost use Rattle.svm_model.specs.Memory.Bytes.{IsWithin};
 ghost use Rattle.svm_model.specs.Svm.VmcbLayout.{place_of};
 ghost use Rattle.svm_model.specs.Svm.Vmexit.{stored, stored_segment};
-ghost use Rattle.svm_model.specs.Svm.VmloadVmsave.{vmsaved};
-ghost use Rattle.svm_switch.specs.Saved.{AreSaved, IsWide, saved_segments, saved_syscall, saved_sysenter};
+ghost use Rattle.svm_model.specs.Svm.VmloadVmsave.{saved_segments, saved_syscall, saved_sysenter, vmsaved};
+ghost use Rattle.svm_switch.specs.Saved.{AreSaved, IsWide};
 
 use host_memory::{GuestWindow, HostMemory};
 use svm_model::Field::{self, *};
@@ -15,7 +15,6 @@ use vmcb_layout::put;
 #[tactic(auto, unfolding(svm_model::specs::Svm::Vmcb::with_fields), using(svm_model::proofs::WindowLemmas::windows))]
 fn save(memory: &mut HostMemory, window: GuestWindow, address: u64, field: Field, value: u64)
     requires window { IsWithin window memory.old.bytes }
-    requires address { address < 2 ^ 40 }
     requires page { address + 4096 ≤ window.size }
     requires place { (place_of field).offset + (place_of field).width ≤ 4096 }
     requires fits { value < 256 ^ (place_of field).width }
@@ -28,7 +27,6 @@ fn save(memory: &mut HostMemory, window: GuestWindow, address: u64, field: Field
 /// A field of eight bytes.
 fn save_word(memory: &mut HostMemory, window: GuestWindow, address: u64, field: Field, value: u64)
     requires window { IsWithin window memory.old.bytes }
-    requires address { address < 2 ^ 40 }
     requires page { address + 4096 ≤ window.size }
     requires field { IsWide field 8 }
     ensures saved { AreSaved window address (stored field value ∷ []) memory.old.bytes memory.new.bytes }
@@ -56,7 +54,6 @@ fn save_segment(
     segment: &Segment,
 )
     requires window { IsWithin window memory.old.bytes }
-    requires address { address < 2 ^ 40 }
     requires page { address + 4096 ≤ window.size }
     requires selector { IsWide parts.selector 2 }
     requires attributes { IsWide parts.attributes 2 }
@@ -75,7 +72,6 @@ fn save_segment(
 #[tactic(auto, unfolding(svm_model::specs::Svm::VmcbLayout::layout, svm_model::specs::Svm::VmcbLayout::number_of, svm_model::specs::Svm::VmcbLayout::place_at))]
 fn save_syscall(registers: &Registers, memory: &mut HostMemory, window: GuestWindow, address: u64)
     requires window { IsWithin window memory.old.bytes }
-    requires address { address < 2 ^ 40 }
     requires page { address + 4096 ≤ window.size }
     ensures saved { AreSaved window address (saved_syscall registers.now) memory.old.bytes memory.new.bytes }
     ensures window { IsWithin window memory.new.bytes }
@@ -91,7 +87,6 @@ fn save_syscall(registers: &Registers, memory: &mut HostMemory, window: GuestWin
 #[tactic(auto, unfolding(svm_model::specs::Svm::VmcbLayout::layout, svm_model::specs::Svm::VmcbLayout::number_of, svm_model::specs::Svm::VmcbLayout::place_at))]
 fn save_sysenter(registers: &Registers, memory: &mut HostMemory, window: GuestWindow, address: u64)
     requires window { IsWithin window memory.old.bytes }
-    requires address { address < 2 ^ 40 }
     requires page { address + 4096 ≤ window.size }
     ensures saved { AreSaved window address (saved_sysenter registers.now) memory.old.bytes memory.new.bytes }
     ensures window { IsWithin window memory.new.bytes }
@@ -106,7 +101,6 @@ fn save_sysenter(registers: &Registers, memory: &mut HostMemory, window: GuestWi
 #[tactic(auto, unfolding(svm_model::specs::Svm::VmcbLayout::layout, svm_model::specs::Svm::VmcbLayout::number_of, svm_model::specs::Svm::VmcbLayout::place_at))]
 fn save_segments(registers: &Registers, memory: &mut HostMemory, window: GuestWindow, address: u64)
     requires window { IsWithin window memory.old.bytes }
-    requires address { address < 2 ^ 40 }
     requires page { address + 4096 ≤ window.size }
     ensures saved { AreSaved window address (saved_segments registers.now) memory.old.bytes memory.new.bytes }
     ensures window { IsWithin window memory.new.bytes }
@@ -130,7 +124,6 @@ pub(crate) fn save_all(
     address: u64,
 )
     requires window { IsWithin window memory.old.bytes }
-    requires address { address < 2 ^ 40 }
     requires page { address + 4096 ≤ window.size }
     ensures { AreSaved window address (vmsaved registers.now) memory.old.bytes memory.new.bytes }
 {

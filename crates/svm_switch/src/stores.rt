@@ -1,14 +1,13 @@
 // What a #VMEXIT stores, a line a field.
-ghost use Rattle.std.specs.Prelude.{◌≡◌, ◌^◌, ◌*◌, ◌+◌, ◌-◌, ◌≤◌};
+ghost use Rattle.std.specs.Prelude.{◌≡◌, ◌^◌, ◌*◌, ◌+◌, ◌-◌, ◌<◌, ◌≤◌};
 ghost use Rattle.svm_model.specs.Memory.Bits.{bits_where as bits_given, replaced as replaced_bits};
 ghost use Rattle.svm_model.specs.Svm.Vmcb.{Fields as FieldsRecord, value as value_in, with_values};
 ghost use Rattle.svm_model.specs.Svm.VmcbLayout.{place_of};
 ghost use Rattle.svm_model.specs.Svm.VmcbRules.{code_bits as bits_of_code, interrupt_information as information, type_of as type_of_cause};
-ghost use Rattle.svm_model.specs.Svm.Vmexit.{stored_exit, stored_pat, stored_segment, stored_segments};
-ghost use Rattle.svm_switch.specs.Stored.{stored_controls, stored_flow};
+ghost use Rattle.svm_model.specs.Svm.Vmexit.{live_word as live_bits, stored_controls, stored_exit, stored_flow, stored_live, stored_pat, stored_segment, stored_segments};
 
 use svm_model::Field::{self, *};
-use svm_model::{Cause, Exit, Registers, Segment, Trap};
+use svm_model::{Cause, Exit, Inside, Registers, Segment, Trap};
 use vmcb_layout::Fields;
 
 /// The four fields of a segment or table register.
@@ -149,4 +148,20 @@ pub(crate) fn store_flow(registers: &Registers, shadow: u64, fields: &mut Fields
     fields.set(Rax, registers.general[0]);
     fields.set(Cr2, registers.cr2);
     fields.set(Shadow, replaced(1, shadow, bits_where(registers.shadow, 1)));
+}
+
+/// The live bits of the virtual-interrupt word: V_TPR, V_IRQ and V_GIF, bits 9:0.
+fn live_word(inside: &Inside) -> u64
+    ensures value { result ≡ live_bits inside.now }
+    ensures few { result < 2 ^ 10 }
+{
+    u64::from(inside.v_tpr) + bits_where(inside.v_irq, 0x100) + bits_where(inside.v_gif, 0x200)
+}
+
+/// The live bits of the virtual-interrupt word, which is the word that was found, and keeps its other bits.
+#[tactic(auto, unfolding(svm_model::specs::Svm::Vmcb::with_values, svm_model::specs::Svm::VmcbLayout::layout, svm_model::specs::Svm::VmcbLayout::number_of, svm_model::specs::Svm::VmcbLayout::place_at))]
+pub(crate) fn store_live(inside: &Inside, word: u64, fields: &mut Fields)
+    ensures { (v : FieldsRecord) → value_in v Field.VirtualInterrupt ≡ word → fields.new ≡ with_values (stored_live inside.now v) fields.old }
+{
+    fields.set(VirtualInterrupt, replaced(0x3ff, word, live_word(inside)));
 }

@@ -24,7 +24,7 @@ nothing : (cost : ℕ) → cost * 0 ≡ 0
 nothing cost = grind arith
 
 -- all calls of a turn
-pub spent-all : (old new cost last : ℕ) → new + cost * 0 ≤ old + cost * last → last ≤ 224 → new ≤ old + cost * 224
-spent-all old new cost last h k = omega (arith, h, nothing cost, more cost last 224 k)
+pub spent-all : (old new cost last : ℕ) → new + cost * 0 ≤ old + cost * last → last ≤ 225 → new ≤ old + cost * 225
+spent-all old new cost last h k = omega (arith, h, nothing cost, more cost last 225 k)
 
 pub ruleset costs = (free, read-more)

@@ -1,7 +1,10 @@
 -- What stands at the start of a turn.
-use Rattle.std.specs.Prelude.{None}
+use Rattle.std.specs.Prelude.{ℕ, None}
 use Rattle.turn_exec.specs.declared.guest_turn.Outward.{Outward}
 
--- no outward call was made
+-- so many outward calls were granted, and none was refused
+abbrev pub begun : ℕ → Outward
+begun calls = record { calls = calls; refused = None; denied = None; sent = None }
+
 abbrev pub nothing : Outward
-nothing = record { calls = 0; refused = None; denied = None; sent = None }
+nothing = begun 0

@@ -20,7 +20,8 @@ use host_memory::{GuestWindow, HostMemory, Steps};
 use port_bus::Ports;
 use std::sync::ledger::Ledger;
 use svm_model::{
-    ApicAnswer, Flush, Ipi, NoMemory, Part, PortWrite, RunEnd, Space, Translated, Translation,
+    ApicAnswer, Flush, Ipi, NoMemory, OutsideMemory, Part, PortWrite, RunEnd, Space, Translated,
+    Translation,
 };
 
 /// What came of a turn's outward calls: how many were granted, the refusal by which the turn was cut off, the write to a port
@@ -69,7 +70,7 @@ pub struct GuestTurn<'t, 'm, 'b, 'a, 's, 'o, T: Translator, B: Ports, A: Apics, 
     /// Where no notice is refused, a refusal is that of a write to a port.
     pub ghost out: { T.refuses ≡ false → is_some outward.now.refused ≡ is_some outward.now.denied },
     /// A call that is granted is one that may cost reads.
-    pub ghost few: { outward.now.calls ≤ spent },
+    pub ghost few: { outward.now.calls ≤ 1 + spent },
     /// A translation may cost a read at least.
     pub ghost some_cost: { 1 ≤ T.cost },
 }
@@ -166,6 +167,7 @@ impl<'t, 'm, 'b, 'a, 's, 'o, T: Translator, B: Ports, A: Apics, L: Ledger> Reach
         numbered(number, found)
     }
 
+    #[inline(always)]
     #[tactic(auto, using(svm_model::proofs::WindowLemmas::windows, crate::proofs::Costs::costs))]
     fn read(&mut self, number: usize, address: u64, count: u8) -> [u8; 16] {
         let frame = frame_of(&self.frames, number, self.window.size);
@@ -173,10 +175,24 @@ impl<'t, 'm, 'b, 'a, 's, 'o, T: Translator, B: Ports, A: Apics, L: Ledger> Reach
         read_part(self.memory, self.window, frame, address, count, self.steps)
     }
 
+    #[inline(always)]
     #[tactic(auto, using(svm_model::proofs::WindowLemmas::windows))]
     fn write(&mut self, number: usize, address: u64, bytes: &[u8]) {
         let frame = frame_of(&self.frames, number, self.window.size);
         write_part(self.memory, self.window, frame, address, bytes);
+    }
+
+    #[tactic(auto, using(svm_model::proofs::WindowLemmas::windows, port_bus::proofs::Counts::counts, crate::proofs::Costs::costs))]
+    fn look(&mut self, address: u64, count: u8) -> Result<[u8; 16], OutsideMemory> {
+        self.spent += 1;
+        let mut bytes = [0; 16];
+        match self
+            .memory
+            .read_guest(self.window, address, count, &mut bytes, self.steps)
+        {
+            Ok(()) => Ok(bytes),
+            Err(outside) => Err(outside),
+        }
     }
 
     #[tactic(auto, using(svm_model::proofs::WindowLemmas::windows, crate::proofs::Calls::calls, crate::proofs::Costs::costs))]

@@ -1,10 +1,12 @@
 // One field in memory.
 ghost use Rattle.std.specs.Prelude.{◌≡◌, ◌+◌, ◌^◌, ◌<◌, ◌≤◌, take, IfOk, MatchResult};
 ghost use Rattle.svm_model.specs.Memory.Bytes.{IsWithin, SameOutside, bytes_at, bytes_of_result, guest_of};
-ghost use Rattle.svm_model.specs.Svm.Vmcb.{fields_in, value as value_in, with_field, with_value};
+ghost use Rattle.svm_model.specs.Svm.Vmcb.{fields_in, value as value_in, with_field, with_fields, with_value};
 ghost use Rattle.svm_model.specs.Svm.VmcbLayout.{place_of};
+ghost use Rattle.vmcb_layout.specs.Values.{values_of};
 ghost use Rattle.vmcb_layout.specs.Widths.{IsWidth};
 
+use crate::fields::Fields;
 use crate::pieces::number_in;
 use crate::places::line_of;
 use host_memory::{GuestWindow, HostMemory, Steps};
@@ -22,7 +24,7 @@ pub fn get<L: Ledger>(
     steps: &mut Steps<L>,
 ) -> Result<u64, OutsideMemory>
     requires window { IsWithin window memory.now.bytes }
-    requires vmcb { vmcb < 2 ^ 40 }
+    requires vmcb { vmcb + 4096 < 2 ^ 64 }
     ensures value { MatchResult (bytes_at (guest_of window memory.now.bytes) (vmcb + (place_of field).offset) (place_of field).width)
         (λ _. result ≡ Ok (value_in (fields_in (guest_of window memory.now.bytes) vmcb) field))
         (λ outside. result ≡ Err outside) }
@@ -67,7 +69,7 @@ pub fn put(
     value: u64,
 ) -> Result<(), OutsideMemory>
     requires window { IsWithin window memory.old.bytes }
-    requires vmcb { vmcb < 2 ^ 40 }
+    requires vmcb { vmcb + 4096 < 2 ^ 64 }
     requires fits { value < 256 ^ (place_of field).width }
     ensures put { MatchResult (bytes_at (guest_of window memory.old.bytes) (vmcb + (place_of field).offset) (place_of field).width)
         (λ _. (result ≡ Ok tt) × (guest_of window memory.new.bytes ≡ with_field vmcb field value (guest_of window memory.old.bytes)))
@@ -75,9 +77,32 @@ pub fn put(
     // The same, where the caller knows that the field is there: no other field changes its value.
     ensures alone { vmcb + (place_of field).offset + (place_of field).width ≤ window.size → (result ≡ Ok tt)
         × (fields_in (guest_of window memory.new.bytes) vmcb ≡ with_value (fields_in (guest_of window memory.old.bytes) vmcb) field value) }
+    ensures page { vmcb + 4096 ≤ window.size → guest_of window memory.new.bytes ≡ with_field vmcb field value (guest_of window memory.old.bytes) }
     ensures others { SameOutside window memory.old.bytes memory.new.bytes }
 {
     let place = line_of(field);
     let bytes = bytes_of(value, place.width);
     memory.write_guest(window, vmcb + place.offset as u64, &bytes, place.width)
+}
+
+/// Writes the values of these fields to the VMCB at a guest-physical address, whose page is all in the guest's memory: those
+/// fields and no other byte change (volume 2, 'VMCB Layout').
+#[tactic(auto, unfolding(svm_model::specs::Svm::Vmcb::with_fields), using(svm_model::proofs::WindowLemmas::windows, crate::proofs::LayoutLemmas::places))]
+pub fn put_fields(
+    memory: &mut HostMemory,
+    window: GuestWindow,
+    vmcb: u64,
+    fields: &Fields,
+    list: &[Field],
+)
+    requires window { IsWithin window memory.old.bytes }
+    requires page { vmcb + 4096 ≤ window.size }
+    ensures put { guest_of window memory.new.bytes ≡ with_fields vmcb (values_of fields.now list.now) (guest_of window memory.old.bytes) }
+    ensures others { SameOutside window memory.old.bytes memory.new.bytes }
+{
+    let [field, rest @ ..] = list else {
+        return;
+    };
+    let _ = put(memory, window, vmcb, *field, fields.value(*field));
+    put_fields(memory, window, vmcb, fields, rest);
 }

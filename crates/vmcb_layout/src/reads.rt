@@ -69,9 +69,9 @@ fn field_value<L: Ledger>(
     number_in(&piece.bytes, place.offset - piece.offset, place.width)
 }
 
-/// The values of all fields of a VMCB that is there.
+/// The values of all fields of a VMCB that is there up to the end of its last field, by 34 reads (volume 2, 'VMCB Layout').
 #[tactic(auto, using(crate::proofs::LayoutLemmas::places))]
-fn read_inside<L: Ledger>(
+pub fn read_inside<L: Ledger>(
     memory: &HostMemory,
     window: GuestWindow,
     vmcb: u64,
@@ -105,12 +105,11 @@ pub fn read_fields<L: Ledger>(
     steps: &mut Steps<L>,
 ) -> Result<Fields, OutsideMemory>
     requires window { IsWithin window memory.now.bytes }
-    requires vmcb { vmcb < 2 ^ 40 }
     ensures fields { result ≡ fields_at (guest_of window memory.now.bytes) vmcb }
     ensures steps { IfOk result (λ _. steps.new ≡ steps.old + 34) }
     ensures unread { IfErr result (λ _. steps.new ≡ steps.old) }
 {
-    if vmcb + 4096 > window.size {
+    if window.size < 4096 || vmcb > window.size - 4096 {
         return Err(OutsideMemory {
             address: vmcb.max(window.size),
         });

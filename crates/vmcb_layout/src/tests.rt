@@ -169,7 +169,7 @@ fn put_each<L: Ledger, R: Abort>(rt: &R, alloc: Global, blank: Blank) -> Result<
 }
 
 /// The size of the guest's memory, the address of a VMCB, and the first byte outside that reading it tells.
-const MISSING: [(u64, u64, u64); 7] = [
+const MISSING: [(u64, u64, u64); 9] = [
     (4096, 4096, 4096),
     (4096, 0x5000, 0x5000),
     (4096, 1, 4096),
@@ -177,6 +177,8 @@ const MISSING: [(u64, u64, u64); 7] = [
     (0x66f, 0, 0x66f),
     (0, 0, 0),
     (8192, 0xff_ffff_f000, 0xff_ffff_f000),
+    (8192, 0xffff_ffff_ffff_f000, 0xffff_ffff_ffff_f000),
+    (8192, 0xffff_ffff_ffff_ffff, 0xffff_ffff_ffff_ffff),
 ];
 
 /// The size of the guest's memory, the address of a VMCB, a field of it, and the first byte of it that is outside.
@@ -200,7 +202,7 @@ fn refuse_each<L: Ledger, R: Abort>(rt: &R, alloc: Global, blank: Blank) -> Resu
     let mut steps: Steps<L> = counted_from(blank);
     let memory = HostMemory::new(alloc, 3)?;
     for &(size, vmcb, address) in &MISSING {
-        assert!(rt; size <= 8192 && vmcb < 1 << 40);
+        assert!(rt; size <= 8192);
         let read = read_fields(&memory, GuestWindow { base: 4096, size }, vmcb, &mut steps);
         assert!(rt;
             matches!(read, Err(outside) if outside.address == address),

@@ -1,8 +1,8 @@
 -- What each system row does to the registers, what it writes, and what it asks for beyond them (volume 3, 'System
 -- Instruction Reference').
-use Rattle.std.specs.Prelude.{ℕ, ◌%◌, List, ◌&&◌, true, false, not, if◌then◌else◌, Option, Some, None, Result, Ok, Err}
+use Rattle.std.specs.Prelude.{ℕ, ◌%◌, List, true, false, if◌then◌else◌, Option, Some, None, Result, Err}
 use Rattle.svm_model.specs.Instructions.Exceptions.{invalid_opcode}
-use Rattle.svm_model.specs.Instructions.Guards.{has_svm, refusal}
+use Rattle.svm_model.specs.Instructions.Guards.{refusal}
 use Rattle.svm_model.specs.Instructions.Locking.{lock_is_undefined}
 use Rattle.svm_model.specs.Instructions.Operands.{State}
 use Rattle.svm_model.specs.declared.rows.Op.{Op}
@@ -11,7 +11,7 @@ use Rattle.svm_model.specs.declared.rows.Row.{Row}
 use Rattle.svm_model.specs.declared.system.Outside.TheVariants as outside
 use Rattle.svm_model.specs.declared.traps.Trap.{Trap}
 use Rattle.svm_model.specs.declared.turns.Facts.{Facts}
-use Rattle.svm_model.specs.Instructions.SystemState.{Systemic, asking, plainly, leaving, at_next, clears_interrupts, sets_interrupts, pushes_flags, pops_flags, reads_port, writes_port}
+use Rattle.svm_model.specs.Instructions.SystemState.{Systemic, asking, plainly, at_next, clears_interrupts, sets_interrupts, pushes_flags, pops_flags, reads_port, writes_port}
 use Rattle.svm_model.specs.Instructions.ControlRows.{moves_control, moves_debug, with_pair, msr_named, reads_named, writes_named, identifies, loads_table, drops_page, swapped}
 
 -- The rows. Those that ask for an interrupt, IRETQ and those of SVM leave the registers to what is asked for.
@@ -57,8 +57,3 @@ on_refusal (Some trap) rest = Err trap
 unfoldable pub system : Row → ℕ → List ℕ → Facts → State → Result Systemic Trap
 system row next values facts s =
     on_refusal (refusal row s.registers) (if lock_is_undefined row then Err invalid_opcode else system_op row.op row next values facts s)
-
--- A row that sets EFER.SVME ends the guest, as no row of SVM is offered yet.
-abbrev pub unless_svm : State → Result Systemic Trap → Result Systemic Trap
-unless_svm s (Ok n) = if has_svm n.state.registers && not (has_svm s.registers) then leaving 9 s else Ok n
-unless_svm s (Err trap) = Err trap

@@ -94,11 +94,11 @@ rules v offered =
     exceeds f.Dr6 0xFFFFFFFF v ∷
     -- 8 DR7 bits 63:32 are not 0
     exceeds f.Dr7 0xFFFFFFFF v ∷
-    -- 9 LME and PG are 1 and PAE is 0
+    -- 9 long mode with paging, where PAE is 0
     (is_long v && not (field_bit f.Cr4 5 v)) ∷
-    -- 10 LME and PG are 1 and PE is 0
+    -- 10 long mode with paging, where PE is 0
     (is_long v && not (field_bit f.Cr0 0 v)) ∷
-    -- 11 LME, PG, PAE, CS.L and CS.D are all 1
+    -- 11 long mode with paging and PAE, where the code segment has both L and D
     (is_long v && field_bit f.Cr4 5 v && field_bit f.CsAttributes 9 v && field_bit f.CsAttributes 10 v) ∷
     -- 12 the VMRUN intercept is clear
     not (field_bit f.InterceptWord10 0 v) ∷

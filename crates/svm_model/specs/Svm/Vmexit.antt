@@ -67,8 +67,9 @@ stored_segments r =
 abbrev pub stored_pat : Bool → Registers → List FieldValue
 stored_pat nested r = if nested then stored f.GPat r.pat ∷ [] else []
 
-unfoldable pub stored_state : Bool → Registers → Fields → List FieldValue
-stored_state nested r v =
+-- CPL, the control registers and the debug registers
+abbrev pub stored_controls : Registers → List FieldValue
+stored_controls r =
     stored f.Cpl r.cpl ∷
     stored f.Efer r.efer ∷
     stored f.Cr4 r.cr4 ∷
@@ -76,13 +77,21 @@ stored_state nested r v =
     stored f.Cr0 r.cr0 ∷
     stored f.Dr7 r.dr7 ∷
     stored f.Dr6 r.dr6 ∷
+    []
+
+-- RFLAGS, RIP, RSP, RAX, CR2 and the interrupt shadow
+abbrev pub stored_flow : Registers → Fields → List FieldValue
+stored_flow r v =
     stored f.Rflags r.rflags ∷
     stored f.Rip r.rip ∷
     stored f.Rsp (whole_register rsp r) ∷
     stored f.Rax (whole_register rax r) ∷
     stored f.Cr2 r.cr2 ∷
     stored_bits f.Shadow 1 (bits_where r.shadow 1) v ∷
-    stored_segments r ++ stored_pat nested r
+    []
+
+unfoldable pub stored_state : Bool → Registers → Fields → List FieldValue
+stored_state nested r v = stored_controls r ++ stored_flow r v ++ stored_segments r ++ stored_pat nested r
 
 -- the exit, with the event that was in delivery; EVENTINJ's bit 31 is cleared
 unfoldable pub stored_exit : Exit → Option Trap → Fields → List FieldValue

@@ -10,7 +10,7 @@ use Rattle.svm_model.specs.declared.gates.Popped.{Popped}
 use Rattle.svm_model.specs.declared.register_file.Registers.{Registers}
 use Rattle.svm_model.specs.declared.register_file.Segment.{Segment}
 
--- RFLAGS that POPFQ and IRETQ may change: IOPL only at CPL 0, IF only where CPL is at most IOPL
+-- the bits of RFLAGS that POPFQ and IRETQ change: those of IOPL only where CPL is 0, and IF where IOPL allows it
 abbrev pub popped_mask : Registers → ℕ
 popped_mask r =
     let without_level = without_bits 0x207ED5 (bits_where (not (r.cpl == 0)) 0x3000) in

@@ -15,7 +15,7 @@ use Rattle.svm_model.specs.Turn.Outsides.{Doing, coming, with_outside}
 use Rattle.svm_model.specs.Instructions.Planning.{planned}
 use Rattle.svm_model.specs.Memory.RegisterFile.{is_user}
 use Rattle.svm_model.specs.Memory.Bits.{bit, bits_where}
-use Rattle.svm_model.specs.Instructions.SystemRows.{system, unless_svm}
+use Rattle.svm_model.specs.Instructions.SystemRows.{system}
 use Rattle.svm_model.specs.Instructions.SystemState.{Systemic, port_of, port_bytes}
 use Rattle.svm_model.specs.Svm.Vmcb.{Fields}
 use Rattle.svm_model.specs.declared.exits.Exit.{Exit}
@@ -36,8 +36,7 @@ on_system d plan numbers next (Ok s) = with_outside d plan numbers s.state.resul
 on_system d plan numbers next (Err trap) = next (raised trap)
 
 abbrev pub system_with : Doing → List ℕ → Result Systemic Trap
-system_with d values =
-    let s = state d.vcpu.registers no_values in unless_svm s (system d.row d.next_rip values (facts_under d.control d.vcpu d.facts) s)
+system_with d values = system d.row d.next_rip values (facts_under d.control d.vcpu d.facts) (state d.vcpu.registers no_values)
 
 abbrev pub on_read : Doing → List PlannedAccess → (Result Came Stop → Course) → Result Words Stop → Course
 on_read d plan next (Ok read) = on_system d plan read.numbers next (system_with d read.values)

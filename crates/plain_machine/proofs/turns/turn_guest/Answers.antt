@@ -1,16 +1,14 @@
 -- The turn of a guest's vcpu is what the executor's turn gives.
-use Rattle.std.proofs.Common.{◌≡◌, ◌∙◌, ◌<◌, Some, None, length, slice_get, ap, sym, subst, refl, arith, IfSome, is_some, true}
-use Rattle.std.proofs.lemmas.List.{length-map}
+use Rattle.std.proofs.Common.{◌≡◌, ◌∙◌, ◌<◌, None, length, ap, sym, subst, arith, IfSome, is_some, true}
 use Rattle.svm_model.specs.Memory.Bytes.{guest_of}
 use Rattle.svm_model.specs.Machine.PlainTurn.{turned}
 use Rattle.svm_model.specs.Machine.Turns.{board_of}
 use Rattle.svm_model.specs.declared.turns.Facts.{Facts}
-use Rattle.svm_model.specs.declared.vcpus.Vcpu.{Vcpu}
 use Rattle.turn_exec.specs.Plays.{board_with, refused_at}
 use Rattle.plain_machine.specs.Turning.{Gives, GrantsLast}
 use Rattle.plain_machine.specs.GuestTurns.{GuestTurn}
 use Rattle.plain_machine.specs.Slots.{Kept, guest_at, layout}
-use Rattle.plain_machine.proofs.GuestTurnLemmas.{Comes, after_turn, at_index, came_at, ended, layout-after, not_ended, outside-of}
+use Rattle.plain_machine.proofs.GuestTurnLemmas.{Comes, after_turn, came_at, ended, layout-after, not_ended}
 use Rattle.plain_machine.proofs.turns.turn_guest.Given.{Over}
 use Rattle.plain_machine.proofs.turns.turn_guest.Goals as goal
 
@@ -30,52 +28,43 @@ pub returns-then-is_some-clause-ended : goal.returns-then-is_some-clause-ended
 returns-then-is_some-clause-ended g c =
     sym (ap (λ (t : GuestTurn). t.ended) (ended None c.args.moment.now (g.B.Ports.bus c.args.bus.now) (guest_at c.args.memory.now.bytes c.args.slot.now) (still g c)))
 
-pub take_turn-stepped-requires-clause-outside : goal.take_turn-stepped-requires-clause-outside
-take_turn-stepped-requires-clause-outside g c =
-    let there : c.from-index.result < length c.args.slot.now.vcpus = omega (arith, c.requires.there, c.from-index.ensures) in
-    let here : c.from-index.result < length c.slot.inside.vcpus.items = subst (λ (s : Kept). c.from-index.result < length s.vcpus) (sym c.slot.view_is) there in
-    let vcpu : slice_get c.slot.inside.vcpus.items c.from-index.result ≡ Some c.index_mut-vcpu.result.now
-    = at_index c.slot.inside.vcpus.items c.from-index.result c.from-index.result c.index_mut-vcpu.result.now c.index_mut-vcpu.ensures.value refl here in
-    outside-of c.args.slot.now.vcpus c.from-index.result c.index_mut-vcpu.result.now c.requires.slot.outside
-    (ap (λ (s : Kept). slice_get s.vcpus c.from-index.result) (sym c.slot.view_is) ∙ vcpu)
-
 abbrev inside : (g : Over) → goal.After-outcome_of g → Kept
 inside g c = record { window = c.slot.inside.window; ended = c.slot.inside.ended; vcpus = c.slot.inside.vcpus.items; apics = c.slot.inside.apics.items }
 
 pub note_end-requires : goal.note_end-requires
 note_end-requires g c = not_ended c.slot.inside.ended c.if-is_some.ensures
 
-with_fields : (g : Over) (c : goal.After-outcome_of g) → Comes c.args.moment.now (g.B.Ports.bus c.args.bus.now) (g.B.Ports.bus c.take_turn-stepped.new.bus) (g.B.Ports.faults c.args.bus.now) (g.B.Ports.faults c.take_turn-stepped.new.bus)
+with_fields : (g : Over) (c : goal.After-outcome_of g) → Comes c.args.moment.now (g.B.Ports.bus c.args.bus.now) (g.B.Ports.bus c.take_turn.new.bus) (g.B.Ports.faults c.args.bus.now) (g.B.Ports.faults c.take_turn.new.bus)
     (guest_at c.args.memory.now.bytes c.args.slot.now)
-    (after_turn (guest_at c.args.memory.now.bytes (inside g c)) c.args.moment.now.vcpu.index c.from-index.result c.note_end.new.noted (guest_of c.slot.inside.window c.take_turn-stepped.new.memory.bytes) c.take_turn-stepped.new.vcpu c.take_turn-stepped.new.apic c.take_turn-stepped.new.outward.sent)
+    (after_turn (guest_at c.args.memory.now.bytes (inside g c)) c.args.moment.now.vcpu.index c.from-index.result c.note_end.new.noted (guest_of c.slot.inside.window c.take_turn.new.memory.bytes) c.take_turn.new.vcpu c.take_turn.new.apic c.take_turn.new.outward.sent)
     c.outcome_of.result
 with_fields g c =
     let m = c.args.moment.now in
     let i = c.from-index.result in
     let bytes = c.args.memory.now.bytes in
     let bus = g.B.Ports.bus c.args.bus.now in
-    let new = g.B.Ports.bus c.take_turn-stepped.new.bus in
+    let new = g.B.Ports.bus c.take_turn.new.bus in
     let faults = g.B.Ports.faults c.args.bus.now in
-    let later = g.B.Ports.faults c.take_turn-stepped.new.bus in
-    let turn = c.take_turn-stepped.new.outward in
-    let memory = guest_of c.slot.inside.window c.take_turn-stepped.new.memory.bytes in
+    let later = g.B.Ports.faults c.take_turn.new.bus in
+    let turn = c.take_turn.new.outward in
+    let memory = guest_of c.slot.inside.window c.take_turn.new.memory.bytes in
     let in_vcpus : i < length c.slot.inside.vcpus.items
     = subst (λ (s : Kept). i < length s.vcpus) (sym c.slot.view_is) (omega (arith, c.requires.there, c.from-index.ensures)) in
     let in_apics : i < length c.slot.inside.apics.items
-    = subst (λ (s : Kept). i < length s.apics) (sym c.slot.view_is) (omega (arith, c.requires.there, c.from-index.ensures, c.requires.slot.apics, length-map c.args.slot.now.vcpus (λ (v : Vcpu). v.inside))) in
-    let came = came_at m i bus new faults later (guest_at bytes (inside g c)) c.index_mut-vcpu.result.now c.take_turn-stepped.new.vcpu c.index_mut-apic.result.now c.take_turn-stepped.new.apic memory turn.calls turn.refused turn.denied c.take_turn-stepped.result turn.sent
+    = subst (λ (s : Kept). i < length s.apics) (sym c.slot.view_is) (omega (arith, c.requires.there, c.from-index.ensures, c.requires.slot.apics)) in
+    let came = came_at m i bus new faults later (guest_at bytes (inside g c)) c.index_mut-vcpu.result.now c.take_turn.new.vcpu c.index_mut-apic.result.now c.take_turn.new.apic memory turn.calls turn.refused turn.denied c.take_turn.new.stepped turn.sent
     c.from-index.ensures (not_ended c.slot.inside.ended c.if-is_some.ensures) c.index_mut-vcpu.ensures.value in_vcpus c.index_mut-apic.ensures.value in_apics
-    (subst (λ (f : Facts). Gives (turned (refused_at turn.refused turn.calls) f (board_of bus c.index_mut-apic.result.now) (guest_of c.slot.inside.window bytes) c.index_mut-vcpu.result.now) memory (board_with new c.take_turn-stepped.new.apic turn.sent turn.calls turn.refused turn.denied) c.take_turn-stepped.new.vcpu c.take_turn-stepped.result) c.facts_of-facts.ensures c.take_turn-stepped.ensures.turned)
-    c.take_turn-stepped.ensures.out c.take_turn-stepped.ensures.kept
-    (subst (λ (f : Facts). IfSome turn.denied (λ write. GrantsLast turn.calls bus write (turned None f (board_of bus c.index_mut-apic.result.now) (guest_of c.slot.inside.window bytes) c.index_mut-vcpu.result.now))) c.facts_of-facts.ensures c.take_turn-stepped.ensures.last)
-    c.take_turn-stepped.ensures.blamed in
-    subst (λ (s : Kept). Comes m bus new faults later (guest_at bytes s) (after_turn (guest_at bytes (inside g c)) m.vcpu.index i c.note_end.new.noted memory c.take_turn-stepped.new.vcpu c.take_turn-stepped.new.apic turn.sent) c.outcome_of.result) c.slot.view_is
+    (subst (λ (f : Facts). Gives (turned (refused_at turn.refused turn.calls) f (board_of bus c.index_mut-apic.result.now) (guest_of c.slot.inside.window bytes) c.index_mut-vcpu.result.now) memory (board_with new c.take_turn.new.apic turn.sent turn.calls turn.refused turn.denied) c.take_turn.new.vcpu c.take_turn.new.stepped) c.facts_of-facts.ensures c.take_turn.ensures.turned)
+    c.take_turn.ensures.out c.take_turn.ensures.kept
+    (subst (λ (f : Facts). IfSome turn.denied (λ write. GrantsLast turn.calls bus write (turned None f (board_of bus c.index_mut-apic.result.now) (guest_of c.slot.inside.window bytes) c.index_mut-vcpu.result.now))) c.facts_of-facts.ensures c.take_turn.ensures.last)
+    c.take_turn.ensures.blamed in
+    subst (λ (s : Kept). Comes m bus new faults later (guest_at bytes s) (after_turn (guest_at bytes (inside g c)) m.vcpu.index i c.note_end.new.noted memory c.take_turn.new.vcpu c.take_turn.new.apic turn.sent) c.outcome_of.result) c.slot.view_is
     (rw (c.outcome_of.ensures, c.note_end.ensures, c.end_by-ended.ensures) came)
 
-comes : (g : Over) (c : goal.After-outcome_of g) → Comes c.args.moment.now (g.B.Ports.bus c.args.bus.now) (g.B.Ports.bus c.take_turn-stepped.new.bus) (g.B.Ports.faults c.args.bus.now) (g.B.Ports.faults c.take_turn-stepped.new.bus)
-    (guest_at c.args.memory.now.bytes c.args.slot.now) (guest_at c.take_turn-stepped.new.memory.bytes c.spread.new.slot) c.outcome_of.result
+comes : (g : Over) (c : goal.After-outcome_of g) → Comes c.args.moment.now (g.B.Ports.bus c.args.bus.now) (g.B.Ports.bus c.take_turn.new.bus) (g.B.Ports.faults c.args.bus.now) (g.B.Ports.faults c.take_turn.new.bus)
+    (guest_at c.args.memory.now.bytes c.args.slot.now) (guest_at c.take_turn.new.memory.bytes c.spread.new.slot) c.outcome_of.result
 comes g c =
-    subst (λ (s : Kept). Comes c.args.moment.now (g.B.Ports.bus c.args.bus.now) (g.B.Ports.bus c.take_turn-stepped.new.bus) (g.B.Ports.faults c.args.bus.now) (g.B.Ports.faults c.take_turn-stepped.new.bus) (guest_at c.args.memory.now.bytes c.args.slot.now) (guest_at c.take_turn-stepped.new.memory.bytes s) c.outcome_of.result)
+    subst (λ (s : Kept). Comes c.args.moment.now (g.B.Ports.bus c.args.bus.now) (g.B.Ports.bus c.take_turn.new.bus) (g.B.Ports.faults c.args.bus.now) (g.B.Ports.faults c.take_turn.new.bus) (guest_at c.args.memory.now.bytes c.args.slot.now) (guest_at c.take_turn.new.memory.bytes s) c.outcome_of.result)
     (sym c.spread.ensures) (with_fields g c)
 
 pub returns-clause-guest : goal.returns-clause-guest
@@ -95,11 +84,6 @@ returns-clause-out g c = (comes g c).out
 
 pub returns-clause-layout : goal.returns-clause-layout
 returns-clause-layout g c =
-    let i = c.from-index.result in
-    let in_vcpus : i < length c.slot.inside.vcpus.items
-    = subst (λ (s : Kept). i < length s.vcpus) (sym c.slot.view_is) (omega (arith, c.requires.there, c.from-index.ensures)) in
-    let vcpu = at_index c.slot.inside.vcpus.items i i c.index_mut-vcpu.result.now c.index_mut-vcpu.ensures.value refl in_vcpus in
     ap layout c.spread.ensures
-    ∙ layout-after (inside g c) c.note_end.new.noted i c.args.moment.now.vcpu.index c.index_mut-vcpu.result.now c.take_turn-stepped.new.vcpu c.take_turn-stepped.new.apic c.take_turn-stepped.new.outward.sent vcpu
-    (c.take_turn-stepped.ensures.outside ∙ sym (outside-of c.args.slot.now.vcpus i c.index_mut-vcpu.result.now c.requires.slot.outside (ap (λ (s : Kept). slice_get s.vcpus i) (sym c.slot.view_is) ∙ vcpu)))
+    ∙ layout-after (inside g c) c.note_end.new.noted c.from-index.result c.args.moment.now.vcpu.index c.take_turn.new.vcpu c.take_turn.new.apic c.take_turn.new.outward.sent
     ∙ ap layout c.slot.view_is

@@ -1,31 +1,31 @@
--- The turn of the executor is the plain turn.
-use Rattle.std.proofs.Common.{[], rules}
-use Rattle.plain_machine.proofs.Turning.{IfSome-of, needs_nothing, refused_by, turn-taken}
+-- The turn in L1.
+use Rattle.std.proofs.Common.{◌≡◌, ℕ, List, None, sym, subst, IfSome, rules}
+use Rattle.svm_model.specs.Machine.Turns.{board_of}
+use Rattle.svm_model.specs.Memory.Bytes.{guest_of}
+use Rattle.svm_model.specs.Turn.Course.{Board, Turned}
+use Rattle.turn_exec.specs.Plays.{board_with, refused_at}
+use Rattle.plain_machine.specs.Turning.{Gives, GrantsLast}
+use Rattle.plain_machine.proofs.Turning.{turned-alone}
+use Rattle.plain_machine.proofs.walking.take_turn.Given.{Over}
 use Rattle.plain_machine.proofs.walking.take_turn.Goals as goal
 
-pub returns-clause-turned : goal.returns-clause-turned
-returns-clause-turned g c =
-    let f = c.take_turn-stepped.ensures.follows [] tt (needs_nothing _) in
-    let taken = turn-taken _ _ _ _ _ _ _ _ _ _ _ _ (c.interrupt_for-interrupt.ensures _) c.space-space.ensures c.requires.outside f.memory_is f.board_is f.vcpu_is f.stepped_is in
-    let given = taken.turned_to in
-    search rules
+alone : (g : Over) (c : goal.After-take_under g) → c.args.vcpu.now.inside ≡ None
+alone g c = search rules
 
-pub returns-clause-outside : goal.returns-clause-outside
-returns-clause-outside g c =
-    let f = c.take_turn-stepped.ensures.follows [] tt (needs_nothing _) in
-    (turn-taken _ _ _ _ _ _ _ _ _ _ _ _ (c.interrupt_for-interrupt.ensures _) c.space-space.ensures c.requires.outside f.memory_is f.board_is f.vcpu_is f.stepped_is).outside
+pub returns-in-None-clause-turned : goal.returns-in-None-clause-turned
+returns-in-None-clause-turned g c =
+    let memory : List ℕ = guest_of c.args.window c.args.memory.now.bytes in
+    let start : Board = board_of (g.B.Ports.bus c.args.bus.now) c.args.apic.now in
+    let turn = c.take_under.new.outward in
+    let under = rw c.requires.begun at c.take_under.ensures.turned in
+    subst (λ (t : Turned). Gives t (guest_of c.args.window c.take_under.new.memory.bytes) (board_with (g.B.Ports.bus c.take_under.new.bus) c.take_under.new.apic turn.sent turn.calls turn.refused turn.denied) c.take_under.new.vcpu c.take_under.new.stepped)
+    (sym (turned-alone (refused_at turn.refused turn.calls) c.args.facts.now start memory c.args.vcpu.now (alone g c))) under
 
-pub returns-clause-out : goal.returns-clause-out
-returns-clause-out g c = search rules
-
-pub returns-clause-kept : goal.returns-clause-kept
-returns-clause-kept g c =
-    let f = c.take_turn-stepped.ensures.follows [] tt (needs_nothing _) in
-    let taken = turn-taken _ _ _ _ _ _ _ _ _ _ _ _ (c.interrupt_for-interrupt.ensures _) c.space-space.ensures c.requires.outside f.memory_is f.board_is f.vcpu_is f.stepped_is in
-    IfSome-of _ _ (λ write denied. (taken.out c.take_turn-stepped.new.outward.calls write (refused_by _ _ write _ (returns-clause-out g c) denied) denied).0)
-
-pub returns-clause-last : goal.returns-clause-last
-returns-clause-last g c =
-    let f = c.take_turn-stepped.ensures.follows [] tt (needs_nothing _) in
-    let taken = turn-taken _ _ _ _ _ _ _ _ _ _ _ _ (c.interrupt_for-interrupt.ensures _) c.space-space.ensures c.requires.outside f.memory_is f.board_is f.vcpu_is f.stepped_is in
-    IfSome-of _ _ (λ write denied. (taken.out c.take_turn-stepped.new.outward.calls write (refused_by _ _ write _ (returns-clause-out g c) denied) denied).1)
+pub returns-in-None-clause-last : goal.returns-in-None-clause-last
+returns-in-None-clause-last g c =
+    let memory : List ℕ = guest_of c.args.window c.args.memory.now.bytes in
+    let start : Board = board_of (g.B.Ports.bus c.args.bus.now) c.args.apic.now in
+    let turn = c.take_under.new.outward in
+    let last = rw c.requires.begun at c.take_under.ensures.last in
+    subst (λ (t : Turned). IfSome turn.denied (λ write. GrantsLast turn.calls (g.B.Ports.bus c.args.bus.now) write t))
+    (sym (turned-alone None c.args.facts.now start memory c.args.vcpu.now (alone g c))) last

@@ -22,7 +22,7 @@ invariant-loop-number g l = record {
   going : l.machine.stopped ≡ false;
   done : l.machine.world.event ≡ l.number;
   counts : NoneFell (g.B.Ports.faults l.initial.bus) (g.B.Ports.faults l.bus);
-  cost : l.steps ≤ l.initial.steps + 896 * l.number;
+  cost : l.steps ≤ l.initial.steps + 968 * l.number;
   later : l.initial.steps ≤ l.steps;
   later_faults : g.K.Sink.faults l.initial.sink ≤ g.K.Sink.faults l.sink;
   later_refusals : g.K.Sink.refusals l.initial.sink ≤ g.K.Sink.refusals l.sink;
