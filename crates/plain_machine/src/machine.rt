@@ -381,7 +381,7 @@ impl PlainMachine {
         apic_at(&self.guests, vcpu)
     }
 
-    /// The level of a vcpu, which the image has to have: 1, as no vcpu runs a guest of its own.
+    /// The level of a vcpu, which the image has to have: 2 while it runs a guest of its own, else 1.
     pub fn level(&self, vcpu: VcpuId) -> u8
         requires { IsVcpu (world_shape self.now.world) vcpu }
         ensures { option_map (λ v. level_in v.inside) (vcpu_in self.now.world vcpu) ≡ Some result }
