@@ -1,12 +1,11 @@
 """Runs an image and a script by the definitions of a model, and prints what they say.
 
-The definitions read the image and the script, make of each event what it does, and say the report. What they do not say yet
-stands here: the blocks of a trace."""
+The definitions read the image and the script, make of each event what it does, and say the report and the blocks of a trace."""
 
 from itertools import compress, count
 from operator import is_not
 
-from paged_bytes import PAGE, PagedBytes
+from paged_bytes import PagedBytes
 from translation import Model, Program
 
 DEVICES = 16
@@ -84,53 +83,22 @@ class Step:
         self.bus = happened["bus"]
         self.effect = happened["effect"]
         self.told = happened["told"]
-        self.output = self.bus["output"][len(bus["output"]) :]
+        self.sent_before = len(bus["output"])
 
     def dump(self):
         """The line of a dump; nothing of another event."""
-        if variant_name(self.event) != "Dump":
-            return ""
-        _, guest, address, length = self.event
-        shown = list(self.before["guests"][guest["0"]]["memory"][address : address + length])
-        line = self.definitions.word("Formats.Text.dump_line")
-        return text(line(self.before["event"], guest["0"], address, shown))
+        return text(self.definitions.shown_line(self.before, self.event))
 
     def block(self):
-        """The lines of a trace: the event, the vcpu that ran, what memory changed, what went out, and an end."""
-        lines = f"event {self.before['event']} {self.name()}\n" + self.vcpu()
+        """What the event prints in a trace. Its pages that are the same object before and behind it are the same bytes, so that
+        no line comes of them; each other one is compared by the definitions."""
+        ran, ended = self.effect["vcpu"], self.effect["ended"]
+        lines = self.definitions.event_line(self.before["event"], self.event, ran) + self.definitions.ran_line(self.world, ran)
         for number, (old, new) in enumerate(zip(self.before["guests"], self.world["guests"])):
-            lines += "".join(changed_lines(number, old["memory"], new["memory"]))
-        lines += "".join(text(self.definitions.out_line(write)) for write in self.output)
-        return lines + self.end() + self.dump()
-
-    def name(self):
-        name, arguments = variant_name(self.event), self.event[1:]
-        if name == "Place":
-            return f"place {arguments[0]['0']} {shown_id(arguments[1])}"
-        if name == "Run":
-            ran = self.effect["vcpu"]
-            return f"run {arguments[0]['0']} {shown_id(ran[1]) if variant_name(ran) == 'Some' else 'none'}"
-        if name == "Feed":
-            return f"feed {arguments[0]} {arguments[1]:x}"
-        if name == "Irq":
-            return f"irq {shown_id(arguments[0])} {arguments[1]:x}"
-        if name == "Nmi":
-            return f"nmi {shown_id(arguments[0])}"
-        return f"unplug {arguments[0]}" if name == "Unplug" else f"dump {arguments[0]['0']}"
-
-    def vcpu(self):
-        if variant_name(self.effect["vcpu"]) == "None":
-            return ""
-        ran = self.effect["vcpu"][1]
-        guest, index = ran["guest"]["0"], ran["index"]
-        vcpu = self.world["guests"][guest]["vcpus"][index]
-        level = self.definitions.level_in(vcpu["inside"])
-        return text(self.definitions.vcpu_line(guest, index, level, vcpu["halted"], vcpu["registers"]))
-
-    def end(self):
-        if variant_name(self.effect["ended"]) == "None":
-            return ""
-        return text(self.definitions.guest_line(self.effect["vcpu"][1]["guest"]["0"], self.effect["ended"]))
+            for page in changed_pages(old["memory"], new["memory"]):
+                lines += self.definitions.page_lines(number, old["memory"], new["memory"], page)
+        lines += self.definitions.sent_lines(self.sent_before, self.bus) + self.definitions.end_line(ran, ended)
+        return text(lines) + self.dump()
 
 
 def text(codes):
@@ -138,23 +106,9 @@ def text(codes):
     return bytes(codes).decode("latin-1")
 
 
-def shown_id(vcpu):
-    return f"{vcpu['guest']['0']}.{vcpu['index']}"
-
-
-def changed_lines(guest, old, new):
-    """A line for each run of bytes of a page that were changed."""
-    if old is new:
-        return
-    for page in compress(count(), map(is_not, old.pages, new.pages)):
-        before, now, at = old.pages[page], new.pages[page], 0
-        while at < PAGE:
-            end = at
-            while end < PAGE and before[end] != now[end]:
-                end += 1
-            if end > at:
-                yield f"mem {guest} at={page * PAGE + at:x} bytes={now[at:end].hex()}\n"
-            at = end + 1
+def changed_pages(old, new):
+    """The numbers of the pages that are not the same object."""
+    return () if old is new else compress(count(), map(is_not, old.pages, new.pages))
 
 
 class Run:

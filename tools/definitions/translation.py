@@ -43,6 +43,8 @@ class Model:
             self.modules[module] = Module(self, module, antt.DefinitionFile(path, os.path.join("specs", inside + ".antt")))
         if not self.modules:
             raise SystemExit(f"{folder}/specs has no definitions")
+        for module in self.modules.values():
+            module.take_operators()
 
     def module_of(self, word):
         """The module that defines a word which stands in one module alone, or in the one that is named before it."""
@@ -83,6 +85,13 @@ class Module:
         else:
             for there, here in each.names:
                 self.imported[here] = ("definition", ".".join(path), there)
+
+    def take_operators(self):
+        """An operator of another module binds here as it does there."""
+        for here, meaning in self.imported.items():
+            if antt.is_infix(here) and meaning[0] == "definition":
+                symbol = here.strip("◌")
+                self.file.operators[symbol] = self.model.modules[meaning[1]].file.operators[symbol]
 
     def take_declared(self, path, each):
         if path[-1] == "TheConstants":

@@ -7,13 +7,16 @@ ghost use Rattle.svm_model.specs.declared.page_tables.Pass.{Pass};
 ghost use Rattle.one_copy.specs.Recalls.{is_kind, is_same as same_access, leaf_for, keeps, Stands};
 
 use crate::kept::Kept;
+use arrayvec::ArrayVec;
 use host_memory::{GuestWindow, HostMemory, Steps};
+use nested_walk::nested_walk;
 use page_walk::{answer_of, walk};
 use std::sync::ledger::Ledger;
-use svm_model::{Access, Flush, Kind, Leaf, Nested, NoMemory, Space, Walked};
+use svm_model::{Access, Flush, Kind, Leaf, Nested, NoMemory, Outer, Space, Walked};
 use turn_exec::Translator;
 
-/// The way to translate that keeps one copy: the leaf of the last walk that found one.
+/// The way to translate that keeps one copy: the leaf of the last walk that found one. Where addresses pass through outer tables
+/// it walks each time, and keeps nothing.
 #[derive(Drop)]
 pub struct OneCopy {
     kept: Option<Kept>,
@@ -71,7 +74,7 @@ impl Translator for OneCopy {
 
     ghost refuses = { false };
 
-    ghost cost = { 4 };
+    ghost cost = { 28 };
 
     fn translate<L: Ledger>(
         &mut self,
@@ -81,6 +84,12 @@ impl Translator for OneCopy {
         access: Access,
         steps: &mut Steps<L>,
     ) -> Result<Nested, NoMemory> {
+        if let Outer::Tables(outer) = &space.outer {
+            self.drop_copy();
+            let mut passes = ArrayVec::new();
+            let guest = &space.paging;
+            return Ok(nested_walk(memory, window, guest, outer, access, &mut passes, steps));
+        }
         if let Some(leaf) = find(self.kept, space.asid, access) {
             return Ok(Nested::Leaf {
                 leaf,

@@ -17,8 +17,8 @@ use std::sync::ledger::Ledger;
 use svm_model::{Facts, Outer, Space, Stepped, Vcpu};
 use turn_exec::{Apics, Outward, Translator};
 
-/// The turn of a vcpu in L1, for which the copy is dropped first, where its APIC gives no vector. At most 900 reads are
-/// counted. Where the rule is kept within the turn, memory, what stands about the vcpu, the vcpu and the answer are those of
+/// The turn of a vcpu in L1, for which the copy is dropped first, where its APIC gives no vector. At most 6300 reads
+/// are counted. Where the rule is kept within the turn, memory, what stands about the vcpu, the vcpu and the answer are those of
 /// the turn that walks for each access.
 pub fn take_turn<B: Ports, A: Apics, L: Ledger>(
     copy: &mut OneCopy,
@@ -41,10 +41,10 @@ pub fn take_turn<B: Ports, A: Apics, L: Ledger>(
     ensures follows { Ensues (⟦<OneCopy as Translator>⟧.stands) true keeps (play (record { space = space.now; refused = refused_at outward.new.refused outward.new.calls }) (board_with (B.bus bus.old) (A.apic apics.old) None 0 None None) (guest_of window memory.old.bytes) []
         (turn_course None facts.now vcpu.old None))
         [] copy.new (guest_of window memory.new.bytes) (board_with (B.bus bus.new) (A.apic apics.new) outward.new.sent outward.new.calls outward.new.refused outward.new.denied) vcpu.new result }
-    ensures others { SameOutside window memory.old.bytes memory.new.bytes }
+    ensures others { SameOutside window memory.old memory.new }
     ensures none_fell { NoneFell (B.faults bus.old) (B.faults bus.new) }
     ensures blamed { IsBlamed outward.new.refused (B.faults bus.old) (B.faults bus.new) }
-    ensures steps { steps.new ≤ steps.old + 900 }
+    ensures steps { steps.new ≤ steps.old + 6300 }
 {
     copy.drop_copy();
     let mut stepped = Stepped::Went;

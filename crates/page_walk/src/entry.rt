@@ -56,7 +56,8 @@ pub fn page_fault(present: bool, reserved: bool, paging: &Paging, access: &Acces
     Walked::PageFault { code }
 }
 
-fn index_of(page: LinearPage, level: u8) -> u64
+/// Which entry of a table of the level the page uses: nine bits of its number, 0 to 511.
+pub fn index_of(page: LinearPage, level: u8) -> u64
     requires low { 1 ≤ level }
     requires high { level ≤ 4 }
     ensures value { result ≡ index_at level page.0 }

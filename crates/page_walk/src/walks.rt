@@ -17,12 +17,13 @@ use host_memory::{GuestWindow, HostMemory, Steps};
 use std::sync::ledger::Ledger;
 use svm_model::{Access, Entry, Nested, Paging, Walked};
 
+/// Writes an entry where it lies in the guest's memory.
 #[tactic(auto, using(svm_model::proofs::WindowLemmas::windows))]
-fn write_entry(memory: &mut HostMemory, window: GuestWindow, at: u64, bits: EntryBits)
+pub fn write_entry(memory: &mut HostMemory, window: GuestWindow, at: u64, bits: EntryBits)
     requires window { IsWithin window memory.old.bytes }
     requires inside { at + 8 ≤ window.size }
     ensures written { guest_of window memory.new.bytes ≡ put_at (guest_of window memory.old.bytes) at (to_le_bytes w64 bits.0) }
-    ensures others { SameOutside window memory.old.bytes memory.new.bytes }
+    ensures others { SameOutside window memory.old memory.new }
 {
     let [a, b, c, d, e, f, g, h] = bits.bits().to_le_bytes();
     let bytes = [a, b, c, d, e, f, g, h, 0, 0, 0, 0, 0, 0, 0, 0];
@@ -30,7 +31,7 @@ fn write_entry(memory: &mut HostMemory, window: GuestWindow, at: u64, bits: Entr
 }
 
 /// The bits that the access sets in the leaf.
-fn leaf_marks(access: &Access) -> EntryBits
+pub fn leaf_marks(access: &Access) -> EntryBits
     ensures { result.0 ≡ accessed + bits_where (is_write access.now.kind) dirty }
 {
     if writes(access) {
@@ -47,7 +48,7 @@ fn mark(memory: &mut HostMemory, window: GuestWindow, access: &Access, path: &[E
     requires window { IsWithin window memory.old.bytes }
     requires inside { All (λ e. e.at + 8 ≤ window.size) path.now }
     ensures marked { guest_of window memory.new.bytes ≡ marked access.now (guest_of window memory.old.bytes) path.now }
-    ensures others { SameOutside window memory.old.bytes memory.new.bytes }
+    ensures others { SameOutside window memory.old memory.new }
 {
     match path {
         [] => {}
@@ -83,7 +84,7 @@ fn mark_all<const N: usize>(
     requires window { IsWithin window memory.old.bytes }
     requires inside { All (λ e. e.at + 8 ≤ window.size) path }
     ensures marked { guest_of window memory.new.bytes ≡ marked access.now (guest_of window memory.old.bytes) path.entry }
-    ensures others { SameOutside window memory.old.bytes memory.new.bytes }
+    ensures others { SameOutside window memory.old memory.new }
 {
     mark(memory, window, access, &path);
 }
@@ -105,7 +106,7 @@ fn end_at_leaf<const N: usize>(
     requires bits { Join bits path }
     ensures answer { result ≡ (answered (guest_of window memory.old.bytes) paging.now access.now (Ok path.entry)).0 }
     ensures memory { guest_of window memory.new.bytes ≡ (answered (guest_of window memory.old.bytes) paging.now access.now (Ok path.entry)).1 }
-    ensures others { SameOutside window memory.old.bytes memory.new.bytes }
+    ensures others { SameOutside window memory.old memory.new }
     ensures frame { HasFrame result }
 {
     let leaf = leaf_at(paging, access, &path, bits);
@@ -135,7 +136,7 @@ pub fn walk<L: Ledger>(
     requires { IsWithin window memory.old.bytes }
     ensures answer { result ≡ (walked (guest_of window memory.old.bytes) paging.now access).0 }
     ensures memory { guest_of window memory.new.bytes ≡ (walked (guest_of window memory.old.bytes) paging.now access).1 }
-    ensures others { SameOutside window memory.old.bytes memory.new.bytes }
+    ensures others { SameOutside window memory.old memory.new }
     ensures frame { HasFrame result }
     ensures steps { steps.new ≤ steps.old + 4 }
     ensures later { steps.old ≤ steps.new }

@@ -3,6 +3,7 @@ pub mod FoundFields
 pub mod GuestTurnLemmas
 pub mod HeedLemmas
 pub mod LookupLemmas
+pub mod MarkLemmas
 pub mod OpeningLemmas
 pub mod OtherLemmas
 pub mod PlacingLemmas

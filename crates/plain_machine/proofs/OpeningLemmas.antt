@@ -9,7 +9,7 @@ use Rattle.svm_model.specs.Formats.LawfulImages.{IsLawfulGuest}
 use Rattle.svm_model.specs.Machine.Apic.{Apic, first_apic}
 use Rattle.svm_model.specs.Machine.Guest.{Guest}
 use Rattle.svm_model.specs.Machine.World.{first_apics, first_guest, first_vcpu, loaded}
-use Rattle.svm_model.specs.Memory.Bytes.{SameOutside, guest_of}
+use Rattle.svm_model.specs.Memory.Bytes.{Host, SameOutside, guest_of}
 use Rattle.svm_model.specs.declared.register_file.Registers.{Registers}
 use Rattle.svm_model.specs.declared.windows.GuestWindow.{GuestWindow}
 use Rattle.plain_machine.proofs.Rows.{before, row_end}
@@ -73,13 +73,13 @@ slots_of-next base (g ∷ guests) (suc n) d h =
 -- Their memories.
 
 -- all those before the changed window stay
-all_before : (w : GuestWindow) (from : ℕ) (slots : List Kept) (old new : List ℕ) → SameOutside w old new → AreInRow w.base from (layouts slots) → guests_at new slots ≡ guests_at old slots
+all_before : (w : GuestWindow) (from : ℕ) (slots : List Kept) (old new : Host) → SameOutside w old new → AreInRow w.base from (layouts slots) → guests_at new.bytes slots ≡ guests_at old.bytes slots
 all_before w from [] old new same row = refl
 all_before w from (x ∷ slots) old new same row =
     let rest = row_end w.base (from + x.window.size) (layouts slots) row.2 in
     let here = before w x.window old new same (omega (arith, row.0, rest)) in
-    ap (λ (m : List ℕ). record { memory = m; ended = x.ended; vcpus = x.vcpus; apics = x.apics } ∷ guests_at new slots) here
-    ∙ ap (λ (gs : List Guest). guest_at old x ∷ gs) (all_before w (from + x.window.size) slots old new same row.2)
+    ap (λ (m : List ℕ). record { memory = m; ended = x.ended; vcpus = x.vcpus; apics = x.apics } ∷ guests_at new.bytes slots) here
+    ∙ ap (λ (gs : List Guest). guest_at old.bytes x ∷ gs) (all_before w (from + x.window.size) slots old new same row.2)
 
 zeros : (size base n : ℕ) → base + n ≤ size → take n (drop base (replicate {A = ℕ} size 0)) ≡ replicate n 0
 zeros size base n h = ap (take n) (drop-replicate base size 0) ∙ take-replicate n (size - base) 0 (omega (arith, h))
@@ -107,9 +107,9 @@ pub room : (guests : List ImageGuest) (n : ℕ) (d : ImageGuest) (slots : List K
 room guests n d slots base bytes h o =
     omega (arith, o.base_is, o.size, pages_in-next guests n d h, pages_in-most guests (suc n))
 
-pub opened_next : (guests : List ImageGuest) (n : ℕ) (d : ImageGuest) (slots : List Kept) (base : ℕ) (old new : List ℕ) (slot : Kept) → All IsLawfulGuest guests → n < length guests → Opened guests n slots base old →
-    slot ≡ slot_of base (get_or guests n d) → guest_of slot.window new ≡ loaded (guest_of slot.window old) (get_or guests n d).segments → SameOutside slot.window old new →
-    Opened guests (n + 1) (slots ++ slot ∷ []) (base + slot.window.size) new
+pub opened_next : (guests : List ImageGuest) (n : ℕ) (d : ImageGuest) (slots : List Kept) (base : ℕ) (old new : Host) (slot : Kept) → All IsLawfulGuest guests → n < length guests → Opened guests n slots base old.bytes →
+    slot ≡ slot_of base (get_or guests n d) → guest_of slot.window new.bytes ≡ loaded (guest_of slot.window old.bytes) (get_or guests n d).segments → SameOutside slot.window old new →
+    Opened guests (n + 1) (slots ++ slot ∷ []) (base + slot.window.size) new.bytes
 opened_next guests n d slots base old new slot lawful h o is filled same =
     let g = get_or guests n d in
     let pages = pages_in-next guests n d h in
@@ -122,13 +122,13 @@ opened_next guests n d slots base old new slot lawful h o is filled same =
     let room_front : 0 + 4096 * pages_in (take n guests) ≤ slot.window.base = omega (arith, at, o.base_is) in
     let row : AreInRow slot.window.base 0 (layouts slots)
     = subst (λ (ss : List Kept). AreInRow slot.window.base 0 (layouts ss)) (sym o.slots_are) (row_of slot.window.base 0 (take n guests) lawful_front room_front) in
-    let kept : guests_at new slots ≡ map first_guest (take n guests) = all_before slot.window 0 slots old new same row ∙ o.guests_are in
-    let blank : guest_of slot.window old ≡ replicate (4096 * g.pages) 0 =
-    ap (λ (k : ℕ). take slot.window.size (drop k old)) at
+    let kept : guests_at new.bytes slots ≡ map first_guest (take n guests) = all_before slot.window 0 slots old new same row ∙ o.guests_are in
+    let blank : guest_of slot.window old.bytes ≡ replicate (4096 * g.pages) 0 =
+    ap (λ (k : ℕ). take slot.window.size (drop k old.bytes)) at
     ∙ ap (take slot.window.size) o.zeros_left
     ∙ ap (λ (k : ℕ). take k (drop base (replicate {A = ℕ} (4096 * pages_in guests) 0))) long
     ∙ zeros (4096 * pages_in guests) base (4096 * g.pages) within in
-    let here : guest_at new slot ≡ first_guest g =
+    let here : guest_at new.bytes slot ≡ first_guest g =
     ap (λ (m : List ℕ). record { memory = m; ended = slot.ended; vcpus = slot.vcpus; apics = slot.apics }) (filled ∙ ap (λ (m : List ℕ). loaded m g.segments) blank)
     ∙ ap (λ (k : Kept). record { memory = loaded (replicate (4096 * g.pages) 0) g.segments; ended = k.ended; vcpus = k.vcpus; apics = k.apics }) is in
     let behind : (xs : List ℕ) → drop (base + slot.window.size) xs ≡ drop slot.window.size (drop base xs) = λ xs. sym (drop-next base slot.window.size xs) in
@@ -141,15 +141,15 @@ opened_next guests n d slots base old new slot lawful h o is filled same =
       base_is = counted ∙ ap (λ (k : ℕ). 4096 * pages_in (take k guests)) (sym (add-one n));
       size = same.size ∙ o.size;
       zeros_left =
-          ap (λ (k : ℕ). drop (k + slot.window.size) new) (sym at)
+          ap (λ (k : ℕ). drop (k + slot.window.size) new.bytes) (sym at)
           ∙ same.after
-          ∙ ap (λ (k : ℕ). drop (k + slot.window.size) old) at
-          ∙ behind old
+          ∙ ap (λ (k : ℕ). drop (k + slot.window.size) old.bytes) at
+          ∙ behind old.bytes
           ∙ ap (drop slot.window.size) o.zeros_left
           ∙ sym (behind (replicate {A = ℕ} (4096 * pages_in guests) 0));
       guests_are =
-          map-append (guest_at new) slots (slot ∷ [])
-          ∙ ap (λ (gs : List Guest). gs ++ guest_at new slot ∷ []) kept
+          map-append (guest_at new.bytes) slots (slot ∷ [])
+          ∙ ap (λ (gs : List Guest). gs ++ guest_at new.bytes slot ∷ []) kept
           ∙ ap (λ (k : Guest). map first_guest (take n guests) ++ k ∷ []) here
           ∙ sym (map-append first_guest (take n guests) (g ∷ []))
           ∙ ap (map first_guest) (sym (take-suc guests n d h))

@@ -3,24 +3,24 @@ use Rattle.std.proofs.Common.{◌≡◌, ◌∙◌, ℕ, zero, suc, ◌+◌, ◌
 use Rattle.std.proofs.lemmas.List.{drop-drop, take-take, drop-take}
 use Rattle.std.proofs.lemmas.Option.{slice_get-get_or}
 use Rattle.svm_model.specs.Machine.Guest.{Guest}
-use Rattle.svm_model.specs.Memory.Bytes.{IsWithin, SameOutside, guest_of}
+use Rattle.svm_model.specs.Memory.Bytes.{Host, IsWithin, SameOutside, guest_of}
 use Rattle.svm_model.specs.declared.windows.GuestWindow.{GuestWindow}
 use Rattle.plain_machine.specs.Slots.{Kept, Layout, layout, guest_at, guests_at, layouts, AreInRow, IsSlot}
 
 -- a window behind the changed one
-behind : (w v : GuestWindow) (old new : List ℕ) → SameOutside w old new → w.base + w.size ≤ v.base → guest_of v new ≡ guest_of v old
+behind : (w v : GuestWindow) (old new : Host) → SameOutside w old new → w.base + w.size ≤ v.base → guest_of v new.bytes ≡ guest_of v old.bytes
 behind w v old new same h =
     let up : v.base ≡ w.base + w.size + (v.base - (w.base + w.size)) = omega arith in
     let at : (xs : List ℕ) → drop v.base xs ≡ drop (v.base - (w.base + w.size)) (drop (w.base + w.size) xs)
     = λ xs. ap (λ (n : ℕ). drop n xs) up ∙ sym (drop-drop (v.base - (w.base + w.size)) (w.base + w.size) xs) in
-    ap (take v.size) (at new ∙ ap (drop (v.base - (w.base + w.size))) same.after ∙ sym (at old))
+    ap (take v.size) (at new.bytes ∙ ap (drop (v.base - (w.base + w.size))) same.after ∙ sym (at old.bytes))
 
 -- a window before it
-pub before : (w v : GuestWindow) (old new : List ℕ) → SameOutside w old new → v.base + v.size ≤ w.base → guest_of v new ≡ guest_of v old
+pub before : (w v : GuestWindow) (old new : Host) → SameOutside w old new → v.base + v.size ≤ w.base → guest_of v new.bytes ≡ guest_of v old.bytes
 before w v old new same h =
     let at : (xs : List ℕ) → take v.size (drop v.base xs) ≡ drop v.base (take (v.base + v.size) (take w.base xs))
     = λ xs. sym (drop-take v.base v.size xs) ∙ ap (drop v.base) (sym (take-take (v.base + v.size) w.base xs h)) in
-    at new ∙ ap (λ (xs : List ℕ). drop v.base (take (v.base + v.size) xs)) same.before ∙ sym (at old)
+    at new.bytes ∙ ap (λ (xs : List ℕ). drop v.base (take (v.base + v.size) xs)) same.before ∙ sym (at old.bytes)
 
 -- every window of a row begins at its start or behind it
 from_start : (size from : ℕ) (slots : List Kept) (i : ℕ) (s : Kept) → AreInRow size from (layouts slots) → slice_get slots i ≡ Some s → from ≤ s.window.base
@@ -36,26 +36,26 @@ abbrev with_memory : Kept → List ℕ → Guest
 with_memory s m = record { memory = m; ended = s.ended; vcpus = s.vcpus; apics = s.apics }
 
 -- all those behind the changed one stay
-pub all_behind : (w : GuestWindow) (size from : ℕ) (slots : List Kept) (old new : List ℕ) → SameOutside w old new → AreInRow size from (layouts slots) → w.base + w.size ≤ from → guests_at new slots ≡ guests_at old slots
+pub all_behind : (w : GuestWindow) (size from : ℕ) (slots : List Kept) (old new : Host) → SameOutside w old new → AreInRow size from (layouts slots) → w.base + w.size ≤ from → guests_at new.bytes slots ≡ guests_at old.bytes slots
 all_behind w size from [] old new same row h = refl
 all_behind w size from (x ∷ slots) old new same row h =
     let here = behind w x.window old new same (omega (arith, row.0)) in
-    ap (λ (m : List ℕ). with_memory x m ∷ guests_at new slots) here
-    ∙ ap (λ (gs : List Guest). guest_at old x ∷ gs) (all_behind w size (from + x.window.size) slots old new same row.2 (omega arith))
+    ap (λ (m : List ℕ). with_memory x m ∷ guests_at new.bytes slots) here
+    ∙ ap (λ (gs : List Guest). guest_at old.bytes x ∷ gs) (all_behind w size (from + x.window.size) slots old new same row.2 (omega arith))
 
 -- One guest of the row is changed, with its window alone.
-pub others_stay : (size from : ℕ) (slots : List Kept) (i : ℕ) (s t : Kept) (old new : List ℕ) → AreInRow size from (layouts slots) → slice_get slots i ≡ Some s → SameOutside s.window old new →
-    guests_at new (slice_set slots i t) ≡ slice_set (guests_at old slots) i (guest_at new t)
+pub others_stay : (size from : ℕ) (slots : List Kept) (i : ℕ) (s t : Kept) (old new : Host) → AreInRow size from (layouts slots) → slice_get slots i ≡ Some s → SameOutside s.window old new →
+    guests_at new.bytes (slice_set slots i t) ≡ slice_set (guests_at old.bytes slots) i (guest_at new.bytes t)
 others_stay size from [] i s t old new row there same = absurd (cc)
 others_stay size from (x ∷ slots) zero s t old new row there same =
     let one : x ≡ s = cc in
     let ends : s.window.base + s.window.size ≤ from + x.window.size = omega (arith, ap (λ (k : Kept). k.window.base) one, ap (λ (k : Kept). k.window.size) one, row.0) in
-    ap (λ (gs : List Guest). guest_at new t ∷ gs) (all_behind s.window size (from + x.window.size) slots old new same row.2 ends)
+    ap (λ (gs : List Guest). guest_at new.bytes t ∷ gs) (all_behind s.window size (from + x.window.size) slots old new same row.2 ends)
 others_stay size from (x ∷ slots) (suc i) s t old new row there same =
     let later = from_start size (from + x.window.size) slots i s row.2 there in
     let here = before s.window x.window old new same (omega (arith, later, row.0)) in
-    ap (λ (m : List ℕ). with_memory x m ∷ guests_at new (slice_set slots i t)) here
-    ∙ ap (λ (gs : List Guest). guest_at old x ∷ gs) (others_stay size (from + x.window.size) slots i s t old new row.2 there same)
+    ap (λ (m : List ℕ). with_memory x m ∷ guests_at new.bytes (slice_set slots i t)) here
+    ∙ ap (λ (gs : List Guest). guest_at old.bytes x ∷ gs) (others_stay size (from + x.window.size) slots i s t old new row.2 there same)
 
 pub row_end : (size from : ℕ) (guests : List Layout) → AreInRow size from guests → from ≤ size
 row_end size from [] row = row
@@ -100,10 +100,10 @@ slot_vcpu slots i index d h vcpu = subst (λ (o : Option Kept). IfSome o (λ slo
 pub slot_apic : (slots : List Kept) (i index : ℕ) (d : Kept) → i < length slots → IfSome (slice_get slots i) (λ slot. index < length slot.apics) → index < length (slice_index_or slots i d).apics
 slot_apic slots i index d h apic = subst (λ (o : Option Kept). IfSome o (λ slot. index < length slot.apics)) (slice_get-get_or slots i d h) apic
 
-pub slot_set : (size : ℕ) (slots : List Kept) (i : ℕ) (d t : Kept) (old new : List ℕ) (g : Guest) → AreInRow size 0 (layouts slots) → i < length slots → SameOutside (slice_index_or slots i d).window old new → guest_at new t ≡ g →
-    guests_at new (slice_set slots i t) ≡ slice_set (guests_at old slots) i g
+pub slot_set : (size : ℕ) (slots : List Kept) (i : ℕ) (d t : Kept) (old new : Host) (g : Guest) → AreInRow size 0 (layouts slots) → i < length slots → SameOutside (slice_index_or slots i d).window old new → guest_at new.bytes t ≡ g →
+    guests_at new.bytes (slice_set slots i t) ≡ slice_set (guests_at old.bytes slots) i g
 slot_set size slots i d t old new g row h same e =
-    others_stay size 0 slots i (slice_index_or slots i d) t old new row (slice_get-get_or slots i d h) same ∙ ap (slice_set (guests_at old slots) i) e
+    others_stay size 0 slots i (slice_index_or slots i d) t old new row (slice_get-get_or slots i d h) same ∙ ap (slice_set (guests_at old.bytes slots) i) e
 
 pub slot_layouts : (slots : List Kept) (i : ℕ) (d t : Kept) → i < length slots → layout t ≡ layout (slice_index_or slots i d) → layouts (slice_set slots i t) ≡ layouts slots
 slot_layouts slots i d t h same = layouts-set slots i (slice_index_or slots i d) t (slice_get-get_or slots i d h) same

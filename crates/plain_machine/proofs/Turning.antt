@@ -6,12 +6,12 @@ use Rattle.svm_model.specs.Machine.Apic.{pending}
 use Rattle.svm_model.specs.Machine.Bus.{Bus}
 use Rattle.svm_model.specs.Machine.Notices.{over}
 use Rattle.svm_model.specs.Machine.PlainTurn.{control_of, settled, turned, turned_by, turned_in, turned_under, way_of}
-use Rattle.svm_model.specs.Svm.Vmcb.{Fields, fields_at, has_nested_paging}
+use Rattle.svm_model.specs.Svm.Vmcb.{Fields, fields_at}
 use Rattle.svm_model.specs.Turn.Control.{Control, space_of}
 use Rattle.svm_model.specs.Turn.Course.{Board, Course, Found, Told, Turned, Way, after}
 use Rattle.svm_model.specs.Turn.Play.{called, is_refused, play}
 use Rattle.svm_model.specs.Turn.Work.{turn_course}
-use Rattle.svm_model.specs.declared.names.End.TheVariants.{Mode, OutsideMemory}
+use Rattle.svm_model.specs.declared.names.End.TheVariants.{OutsideMemory}
 use Rattle.svm_model.specs.declared.names.RunEnd.{RunEnd}
 use Rattle.svm_model.specs.declared.ports.PortWrite.{PortWrite}
 use Rattle.svm_model.specs.declared.turns.Facts.{Facts}
@@ -153,31 +153,19 @@ turned-outside refused facts board memory vcpu i outside e found =
 abbrev heard_of : Bool → Board → List ℕ → Vcpu → Turned
 heard_of refused board memory vcpu = over memory (called refused board) vcpu Went []
 
-abbrev behind_found : Option ℕ → Facts → Board → List ℕ → Vcpu → ℕ → Fields → Bool → Bool → Turned
-behind_found refused facts board memory vcpu vmcb v b nested =
+abbrev behind_found : Option ℕ → Facts → Board → List ℕ → Vcpu → ℕ → Fields → Bool → Turned
+behind_found refused facts board memory vcpu vmcb v b =
     let heard = heard_of b board memory vcpu in
-    after (Found vmcb false v) (if b then heard else (if nested then over memory heard.board vcpu (Ends (Mode 9)) [] else turned_under refused (Some (control_of v)) facts heard.board memory vcpu))
-
-found-is : (refused : Option ℕ) (facts : Facts) (board : Board) (memory : List ℕ) (vcpu : Vcpu) (i : Inside) (v : Fields) (nested : Bool) → vcpu.inside ≡ Some i → Ok v ≡ fields_at memory i.kept.vmcb → is_refused refused board.calls ≡ false → has_nested_paging v ≡ nested →
-    turned refused facts board memory vcpu ≡ behind_found refused facts board memory vcpu i.kept.vmcb v false nested
-found-is refused facts board memory vcpu i v nested e found granted paging =
-    in-inside refused facts board memory vcpu i e
-    ∙ ap (turned_by refused facts board memory vcpu i.kept.vmcb) (sym found)
-    ∙ ap (λ (b : Bool). behind_found refused facts board memory vcpu i.kept.vmcb v b (has_nested_paging v)) granted
-    ∙ ap (λ (n : Bool). behind_found refused facts board memory vcpu i.kept.vmcb v false n) paging
-
--- nested paging is not offered yet
-pub turned-nested : (refused : Option ℕ) (facts : Facts) (board : Board) (memory : List ℕ) (vcpu : Vcpu) (i : Inside) (v : Fields) → vcpu.inside ≡ Some i → Ok v ≡ fields_at memory i.kept.vmcb → is_refused refused board.calls ≡ false → has_nested_paging v ≡ true →
-    Gives (turned refused facts board memory vcpu) memory (called false board) vcpu (Ends (Mode 9))
-turned-nested refused facts board memory vcpu i v e found granted paging =
-    let is = found-is refused facts board memory vcpu i v true e found granted paging in
-    record { memory_is = ap (λ (x : Turned). x.memory) is; board_is = ap (λ (x : Turned). x.board) is; vcpu_is = ap (λ (x : Turned). x.vcpu) is; stepped_is = ap (λ (x : Turned). x.stepped) is }
+    after (Found vmcb false v) (if b then heard else turned_under refused (Some (control_of v)) facts heard.board memory vcpu)
 
 -- the turn under the fields that were found
-pub turned-found : (refused : Option ℕ) (facts : Facts) (board : Board) (memory : List ℕ) (vcpu : Vcpu) (i : Inside) (v : Fields) → vcpu.inside ≡ Some i → Ok v ≡ fields_at memory i.kept.vmcb → is_refused refused board.calls ≡ false → has_nested_paging v ≡ false →
+pub turned-found : (refused : Option ℕ) (facts : Facts) (board : Board) (memory : List ℕ) (vcpu : Vcpu) (i : Inside) (v : Fields) → vcpu.inside ≡ Some i → Ok v ≡ fields_at memory i.kept.vmcb → is_refused refused board.calls ≡ false →
     EndsLike (turned refused facts board memory vcpu) (turned_under refused (Some (control_of v)) facts (called false board) memory vcpu)
-turned-found refused facts board memory vcpu i v e found granted paging =
-    let is = found-is refused facts board memory vcpu i v false e found granted paging in
+turned-found refused facts board memory vcpu i v e found granted =
+    let is : turned refused facts board memory vcpu ≡ behind_found refused facts board memory vcpu i.kept.vmcb v false =
+    in-inside refused facts board memory vcpu i e
+    ∙ ap (turned_by refused facts board memory vcpu i.kept.vmcb) (sym found)
+    ∙ ap (λ (b : Bool). behind_found refused facts board memory vcpu i.kept.vmcb v b) granted in
     record { memory_is = ap (λ (x : Turned). x.memory) is; board_is = ap (λ (x : Turned). x.board) is; vcpu_is = ap (λ (x : Turned). x.vcpu) is; stepped_is = ap (λ (x : Turned). x.stepped) is }
 
 -- in L1

@@ -1,5 +1,6 @@
 pub mod GuestTurns
 pub mod Machines
+pub mod Marks
 pub mod Opening
 pub mod Others
 pub mod Reads

@@ -1,5 +1,5 @@
 -- The machine in clauses, and its guests and vcpus by their names.
-use Rattle.std.specs.Prelude.{ℕ, Bool, Option, Some, None, slice_get}
+use Rattle.std.specs.Prelude.{ℕ, List, Bool, Option, Some, None, slice_get}
 use Rattle.svm_model.specs.Machine.Apic.{Apic}
 use Rattle.svm_model.specs.Machine.Guest.{Guest}
 use Rattle.svm_model.specs.Machine.World.{World}
@@ -7,10 +7,18 @@ use Rattle.svm_model.specs.declared.names.GuestId.{GuestId}
 use Rattle.svm_model.specs.declared.names.VcpuId.{VcpuId}
 use Rattle.svm_model.specs.declared.vcpus.Vcpu.{Vcpu}
 
--- the machine: its world, and whether it is stopped, since the bus refused what an event handed it
+-- which pages of the guests' memories are marked as written: whether any is, the mark of each page of the memory of all, and
+-- the number there of each guest's first page
+pub record Marks : Type 0 where
+  pub is_changed : Bool
+  pub pages : List Bool
+  pub firsts : List ℕ
+
+-- the machine: its world, whether it is stopped, since the bus refused what an event handed it, and the marks of its pages
 pub record Machine : Type 0 where
   pub world : World
   pub stopped : Bool
+  pub marks : Marks
 
 -- the guest of that name
 abbrev pub guest_in : World → GuestId → Option Guest

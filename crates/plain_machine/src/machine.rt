@@ -1,9 +1,10 @@
 // The plain machine: its guests in one memory, its processors, and what events do.
-ghost use Rattle.std.specs.Prelude.{◌≡◌, ℕ, ◌+◌, ◌*◌, ◌^◌, ◌%◌, ◌<◌, ◌≤◌, Bool, true, false, Some, None, Err, length, is_err, OnOk, OnErr, IfOk, IfErr, IfSome, slice_get};
+ghost use Rattle.std.specs.Prelude.{◌≡◌, ℕ, ◌+◌, ◌*◌, ◌/◌, ◌^◌, ◌%◌, ◌<◌, ◌≤◌, Bool, true, false, Some, None, Err, length, is_err, OnOk, OnErr, IfOk, IfErr, IfSome, slice_get};
 ghost use Rattle.std.specs.Option.{option_map};
-ghost use Rattle.svm_model.specs.Memory.Bytes.{byte_at};
+ghost use Rattle.svm_model.specs.Memory.Bytes.{byte_at, page_at};
 ghost use Rattle.svm_model.specs.Machine.Guest.{level_in};
 ghost use Rattle.svm_model.specs.Formats.LawfulImages.{IsLawfulImage};
+ghost use Rattle.svm_model.specs.Formats.Trace.{memory_of};
 ghost use Rattle.svm_model.specs.Machine.Events.{event_of, plain_event, placed, changed_guest, guest_with_irq, guest_with_nmi, next_event, with_timers};
 ghost use Rattle.svm_model.specs.Machine.Runs.{reached, reached_of, EndsStay, HandsOver, HandsOverOf, IsOut};
 ghost use Rattle.svm_model.specs.Machine.Shapes.{world_shape, image_shape, IsNamed, IsVcpu, IsWellFormed};
@@ -11,6 +12,7 @@ ghost use Rattle.svm_model.specs.Machine.Turns.{plain_turn, turn_of};
 ghost use Rattle.svm_model.specs.Machine.World.{world_of};
 ghost use Rattle.port_bus.specs.Causes.{Blames, NoneFell};
 ghost use Rattle.plain_machine.specs.Machines.{apic_in, vcpu_in, guest_in};
+ghost use Rattle.plain_machine.specs.Marks.{AreTold, is_written};
 ghost use Rattle.plain_machine.specs.Others.{OthersStay};
 ghost use Rattle.plain_machine.specs.Reads.{is_run};
 
@@ -32,8 +34,8 @@ use std::sync::ledger::Ledger;
 use svm_model::{RunEnd, Vcpu};
 use vm_names::{CpuId, Effect, Ended, Event, GuestId, NoMemory, Registers, VcpuId};
 
-/// The plain machine. In clauses it is the world that it runs, and whether it is stopped. The bus of port devices stands
-/// beside it.
+/// The plain machine. In clauses it is the world that it runs, whether it is stopped, and which pages of its guests are marked
+/// as written. The bus of port devices stands beside it.
 #[derive(Drop)]
 pub struct PlainMachine {
     version: u16,
@@ -48,8 +50,9 @@ pub struct PlainMachine {
 }
 
 impl Model for PlainMachine {
-    ghost use Rattle.std.specs.Prelude.{length};
+    ghost use Rattle.std.specs.Prelude.{◌≤◌, length};
     ghost use Rattle.plain_machine.specs.Machines.{Machine};
+    ghost use Rattle.plain_machine.specs.Marks.{marks_in};
     ghost use Rattle.plain_machine.specs.Slots.{AreInRow, AreThere, counts, guests_at, layouts};
 
     ghost Value = { Machine };
@@ -64,10 +67,12 @@ impl Model for PlainMachine {
         event = m.event;
       };
       stopped = m.stopped;
+      marks = marks_in m.memory (layouts m.guests.items);
     } };
 
     ghost invariant = { λ m. AreInRow (length m.memory.bytes) 0 (layouts m.guests.items)
-        × AreThere (counts (layouts m.guests.items)) m.placing.items };
+        × AreThere (counts (layouts m.guests.items)) m.placing.items
+        × length m.memory.bytes ≤ 335544320 };
 }
 
 // The effect of an event in which nothing ran.
@@ -97,7 +102,8 @@ impl PlainMachine {
         ensures shape { world_shape self.new.world ≡ world_shape self.old.world }
         ensures number { self.new.world.event ≡ self.old.world.event }
         ensures stopped { self.new.stopped ≡ self.old.stopped }
-        ensures steps { steps.new ≤ steps.old + 968 }
+        ensures told { AreTold self.old self.new }
+        ensures steps { steps.new ≤ steps.old + 6368 }
         ensures later { steps.old ≤ steps.new }
     {
         let moment = Moment {
@@ -118,7 +124,9 @@ impl PlainMachine {
     /// At the start of each event the due timers ring, but those of a guest that was ended.
     #[tactic(auto, using(crate::proofs::Worlds::worlds), unfolding(svm_model::specs::Machine::Events::with_timers))]
     fn ring_timers(&mut self)
-        ensures timers { self.new ≡ record { world = with_timers self.old.world; stopped = self.old.stopped } }
+        ensures timers { self.new.world ≡ with_timers self.old.world }
+        ensures stopped { self.new.stopped ≡ self.old.stopped }
+        ensures told { AreTold self.old self.new }
         ensures shape { world_shape self.new.world ≡ world_shape self.old.world }
         ensures number { self.new.world.event ≡ self.old.world.event }
     {
@@ -129,7 +137,7 @@ impl PlainMachine {
     #[tactic(auto, using(crate::proofs::Worlds::worlds))]
     fn place(&mut self, cpu: CpuId, vcpu: VcpuId)
         requires { IsNamed (world_shape self.old.world) (Event.Place cpu vcpu) }
-        ensures { self.new ≡ record { world = placed self.old.world cpu vcpu; stopped = self.old.stopped } }
+        ensures { self.new ≡ record self.old { world = placed self.old.world cpu vcpu } }
     {
         place_on(&mut self.placing, cpu, vcpu);
     }
@@ -138,7 +146,9 @@ impl PlainMachine {
     #[tactic(auto, using(crate::proofs::Worlds::worlds))]
     fn interrupt(&mut self, vcpu: VcpuId, vector: u8)
         requires { IsNamed (world_shape self.old.world) (Event.Irq vcpu vector) }
-        ensures accepted { self.new ≡ record { world = changed_guest self.old.world vcpu (guest_with_irq vcpu.index vector); stopped = self.old.stopped } }
+        ensures accepted { self.new.world ≡ changed_guest self.old.world vcpu (guest_with_irq vcpu.index vector) }
+        ensures stopped { self.new.stopped ≡ self.old.stopped }
+        ensures told { AreTold self.old self.new }
         ensures shape { world_shape self.new.world ≡ world_shape self.old.world }
         ensures number { self.new.world.event ≡ self.old.world.event }
     {
@@ -149,7 +159,9 @@ impl PlainMachine {
     #[tactic(auto, using(crate::proofs::Worlds::worlds))]
     fn make_nmi_pending(&mut self, vcpu: VcpuId)
         requires { IsNamed (world_shape self.old.world) (Event.Nmi vcpu) }
-        ensures pending { self.new ≡ record { world = changed_guest self.old.world vcpu (guest_with_nmi vcpu.index); stopped = self.old.stopped } }
+        ensures pending { self.new.world ≡ changed_guest self.old.world vcpu (guest_with_nmi vcpu.index) }
+        ensures stopped { self.new.stopped ≡ self.old.stopped }
+        ensures told { AreTold self.old self.new }
         ensures shape { world_shape self.new.world ≡ world_shape self.old.world }
         ensures number { self.new.world.event ≡ self.old.world.event }
     {
@@ -159,7 +171,7 @@ impl PlainMachine {
     /// The event is over.
     fn finish_event(&mut self)
         requires { self.old.world.event < 1048576 }
-        ensures { self.new ≡ record { world = next_event self.old.world; stopped = self.old.stopped } }
+        ensures { self.new ≡ record self.old { world = next_event self.old.world } }
     {
         self.event += 1;
     }
@@ -175,7 +187,7 @@ impl PlainMachine {
     }
 
     /// A turn of the vcpu that is placed on the processor, or nothing.
-    #[tactic(auto, using(port_bus::proofs::Counts::counts), unfolding(svm_model::specs::Machine::Events::event_of, svm_model::specs::Machine::Runs::reached_of, svm_model::specs::Machine::Runs::HandsOverOf))]
+    #[tactic(auto, using(port_bus::proofs::Counts::counts, crate::proofs::MarkLemmas::marks), unfolding(svm_model::specs::Machine::Events::event_of, svm_model::specs::Machine::Runs::reached_of, svm_model::specs::Machine::Runs::HandsOverOf))]
     fn run<B: Ports, L: Ledger>(
         &mut self,
         cpu: CpuId,
@@ -195,7 +207,8 @@ impl PlainMachine {
         ensures shape { world_shape self.new.world ≡ world_shape self.old.world }
         ensures number { OnOk result (self.new.world.event ≡ self.old.world.event + 1) }
         ensures stopped { self.new.stopped ≡ self.old.stopped }
-        ensures steps { steps.new ≤ steps.old + 968 }
+        ensures told { AreTold self.old self.new }
+        ensures steps { steps.new ≤ steps.old + 6368 }
         ensures later { steps.old ≤ steps.new }
     {
         let Some(vcpu) = self.placed_on(cpu) else {
@@ -214,7 +227,7 @@ impl PlainMachine {
     }
 
     /// Feeds a device.
-    #[tactic(auto, using(port_bus::proofs::Counts::counts), unfolding(svm_model::specs::Machine::Events::event_of, svm_model::specs::Machine::Runs::reached_of, svm_model::specs::Machine::Runs::HandsOverOf))]
+    #[tactic(auto, using(port_bus::proofs::Counts::counts, crate::proofs::MarkLemmas::marks), unfolding(svm_model::specs::Machine::Events::event_of, svm_model::specs::Machine::Runs::reached_of, svm_model::specs::Machine::Runs::HandsOverOf))]
     fn feed<B: Ports>(&mut self, device: u8, value: u32, bus: &mut B) -> Result<Effect, Cut>
         requires named { IsNamed (world_shape self.old.world) (Event.Feed device value) }
         requires few { self.old.world.event < 1048576 }
@@ -229,6 +242,7 @@ impl PlainMachine {
         ensures shape { world_shape self.new.world ≡ world_shape self.old.world }
         ensures number { OnOk result (self.new.world.event ≡ self.old.world.event + 1) }
         ensures stopped { self.new.stopped ≡ self.old.stopped }
+        ensures told { AreTold self.old self.new }
     {
         match bus.feed_device(device, value) {
             Ok(()) => {
@@ -240,7 +254,7 @@ impl PlainMachine {
     }
 
     /// What an event does, before a refusal of the bus stops the machine.
-    #[tactic(auto, using(port_bus::proofs::Counts::counts), unfolding(svm_model::specs::Machine::Events::event_of, svm_model::specs::Machine::Runs::reached_of, svm_model::specs::Machine::Runs::HandsOverOf))]
+    #[tactic(auto, using(port_bus::proofs::Counts::counts, crate::proofs::MarkLemmas::marks), unfolding(svm_model::specs::Machine::Events::event_of, svm_model::specs::Machine::Runs::reached_of, svm_model::specs::Machine::Runs::HandsOverOf))]
     fn happen<B: Ports, L: Ledger>(
         &mut self,
         event: Event,
@@ -260,7 +274,8 @@ impl PlainMachine {
         ensures shape { world_shape self.new.world ≡ world_shape self.old.world }
         ensures number { OnOk result (self.new.world.event ≡ self.old.world.event + 1) }
         ensures stopped { self.new.stopped ≡ self.old.stopped }
-        ensures steps { steps.new ≤ steps.old + 968 }
+        ensures told { AreTold self.old self.new }
+        ensures steps { steps.new ≤ steps.old + 6368 }
         ensures still { is_run event ≡ false → steps.new ≡ steps.old }
         ensures later { steps.old ≤ steps.new }
     {
@@ -295,14 +310,16 @@ impl PlainMachine {
     }
 
     /// Does one event of the schedule: places a vcpu, lets the placed vcpu take one turn, feeds a port device or unplugs it, or
-    /// hands an interrupt or an NMI to a vcpu. The turn of a guest that was ended does nothing, so an end stays. At most 968
+    /// hands an interrupt or an NMI to a vcpu. The turn of a guest that was ended does nothing, so an end stays. At most 6368
     /// reads are counted, as many as a turn may spend, and none where no vcpu may take one. The event names what the image and
     /// the bus have, fewer than 1,048,576 events came before it, and the machine is not stopped.
     ///
     /// Only a feed, or a turn's write to a port, may be refused: the answer is the bus's, which blames a device only where
     /// that counted a fault in this call. The bus is then as it was, and the machine stands where the event had come to when
     /// that outward call of it was refused, with the vcpu before its instruction, and is stopped.
-    #[tactic(auto, using(svm_model::proofs::EndLemmas::ends))]
+    ///
+    /// Each page of which a byte has changed is marked as written, also where the event was cut off.
+    #[tactic(auto, using(svm_model::proofs::EndLemmas::ends, crate::proofs::MarkLemmas::marks))]
     pub fn event<B: Ports, L: Ledger>(
         &mut self,
         event: Event,
@@ -321,10 +338,11 @@ impl PlainMachine {
         ensures blamed { IfErr result (λ end. Blames end (B.faults bus.old) (B.faults bus.new)) }
         ensures none_fell { NoneFell (B.faults bus.old) (B.faults bus.new) }
         ensures others { OthersStay self.old.world event self.new.world }
+        ensures told { AreTold self.old self.new }
         ensures ends_stay { EndsStay self.old.world self.new.world }
         ensures shape { world_shape self.new.world ≡ world_shape self.old.world }
         ensures number { OnOk result (self.new.world.event ≡ self.old.world.event + 1) }
-        ensures steps { steps.new ≤ steps.old + 968 }
+        ensures steps { steps.new ≤ steps.old + 6368 }
         ensures still { is_run event ≡ false → steps.new ≡ steps.old }
         ensures later { steps.old ≤ steps.new }
     {
@@ -435,6 +453,48 @@ impl PlainMachine {
         Ok(bytes[0])
     }
 
+    /// How many pages of 4096 bytes the memory of a guest has, which the image has to have.
+    #[tactic(auto, using(crate::proofs::Worlds::worlds))]
+    pub fn page_count(&self, guest: GuestId) -> u32
+        requires { guest.0 < length self.now.world.guests }
+        ensures { 4096 * result ≡ length (memory_of (guest_in self.now.world guest)) }
+    {
+        pages_of(slot_of(&self.guests, guest))
+    }
+
+    /// Whether a page of a guest is marked as written: whether a write touched it since the pages were last marked unwritten, or
+    /// since the machine was opened where they never were. The page has to be one of the guest's memory.
+    #[tactic(auto, using(crate::proofs::Worlds::worlds))]
+    pub fn page_written(&self, guest: GuestId, page: u32) -> bool
+        requires there { guest.0 < length self.now.world.guests }
+        requires page { 4096 * page + 4096 ≤ length (memory_of (guest_in self.now.world guest)) }
+        ensures { result ≡ is_written self.now guest.0 page }
+    {
+        let slot = slot_of(&self.guests, guest);
+        self.memory.page_written(first_page(slot) + page)
+    }
+
+    /// Marks all pages of all guests as unwritten.
+    pub fn mark_unchanged(&mut self)
+        ensures world { self.new.world ≡ self.old.world }
+        ensures stopped { self.new.stopped ≡ self.old.stopped }
+        ensures unmarked { (guest page : ℕ) → guest < length self.old.world.guests → is_written self.new guest page ≡ false }
+    {
+        self.memory.mark_unchanged();
+    }
+
+    /// The bytes of a page of a guest's memory, by one counted read. The page has to be one of the guest's memory.
+    #[tactic(auto, using(crate::proofs::Worlds::worlds))]
+    pub fn page<L: Ledger>(&self, guest: GuestId, page: u32, steps: &mut Steps<L>) -> &[u8]
+        requires there { guest.0 < length self.now.world.guests }
+        requires page { 4096 * page + 4096 ≤ length (memory_of (guest_in self.now.world guest)) }
+        ensures bytes { result.now ≡ page_at (memory_of (guest_in self.now.world guest)) page }
+        ensures steps { steps.new ≡ steps.old + 1 }
+    {
+        let slot = slot_of(&self.guests, guest);
+        self.memory.page(slot.window, page, steps)
+    }
+
     /// The machine that an image starts: the guests' memories with their segments, one behind another, their vcpus as they
     /// start, and no vcpu placed.
     #[tactic(auto, unfolding(svm_model::specs::Machine::World::world_of))]
@@ -469,6 +529,22 @@ fn size_of(slot: &Slot) -> u64
     ensures { result ≡ slot.now.window.size }
 {
     slot.window.size
+}
+
+/// How many pages a guest's memory has.
+fn pages_of(slot: &Slot) -> u32
+    requires { slot.now.window.size ≤ 335544320 }
+    ensures { result ≡ slot.now.window.size / 4096 }
+{
+    (slot.window.size / 4096) as u32
+}
+
+/// The number of a guest's first page in the memory of all.
+fn first_page(slot: &Slot) -> u32
+    requires { slot.now.window.base ≤ 335544320 }
+    ensures { result ≡ slot.now.window.base / 4096 }
+{
+    (slot.window.base / 4096) as u32
 }
 
 /// L1, or L2 inside a VMCB.

@@ -82,7 +82,7 @@ fn open_guest(
     requires room { base + 4096 * guest.now.pages ≤ length memory.old.bytes }
     ensures slot { IfOk result (λ slot. slot ≡ slot_of base guest.now) }
     ensures loaded { IfOk result (λ slot. guest_of slot.window memory.new.bytes ≡ loaded (guest_of slot.window memory.old.bytes) guest.now.segments) }
-    ensures others { IfOk result (λ slot. SameOutside slot.window memory.old.bytes memory.new.bytes) }
+    ensures others { IfOk result (λ slot. SameOutside slot.window memory.old memory.new) }
 {
     let vcpus = first_vcpus(alloc, &guest.vcpus)?;
     let apics = first_apics(alloc, &guest.vcpus)?;

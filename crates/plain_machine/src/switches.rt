@@ -1,6 +1,6 @@
 // Rows that move a VMCB, on the plain machine: VMRUN, VMLOAD and VMSAVE read and write it in the guest's memory.
 ghost use Rattle.std.specs.Prelude.{◌≡◌, ℕ, ◌+◌, ◌≤◌, List, slice_index};
-ghost use Rattle.svm_model.specs.Machine.MovedVmcbs.{behind_flush, entered_turn, flush_of as flush_by, moved_by, offered_to_l1, on_broken, on_mode, unoffered_so_far, vmload as loaded_turn, vmrun as vmrun_turn, vmsave as saved_turn};
+ghost use Rattle.svm_model.specs.Machine.MovedVmcbs.{behind_flush, entered_turn, flush_of as flush_by, moved_by, offered_to_l1, on_broken, on_mode, vmload as loaded_turn, vmrun as vmrun_turn, vmsave as saved_turn};
 ghost use Rattle.svm_model.specs.Machine.Notices.{over};
 ghost use Rattle.svm_model.specs.Memory.Bytes.{IsWithin, SameOutside, guest_of};
 ghost use Rattle.svm_model.specs.Svm.Vmcb.{fields_at, fields_in, value as value_in, v_tpr as tpr_of, v_irq as irq_of, v_gif as gif_of};
@@ -75,32 +75,16 @@ fn flush_in(fields: &Fields) -> Option<Flush>
     flush_of(control, fields.value(Field::Asid) as u32)
 }
 
-/// A mode that this machine does not offer: so far nested paging is none either.
-fn unoffered(fields: &Fields) -> Option<u8>
-    ensures { result ≡ unoffered_so_far fields.now (mode_of fields.now) }
-{
-    match unoffered_mode(fields) {
-        Some(rule) => Some(rule),
-        None => {
-            if fields.has_bit(Field::NpEnable, 0) {
-                Some(9)
-            } else {
-                None
-            }
-        }
-    }
-}
-
 /// A VMRUN of a VMCB that keeps the rules: the guest is entered, behind its flush, or ends where its mode is not offered.
 fn run_legal(vcpu: &mut Vcpu, fields: &Fields, vmcb: u64, next_rip: u64, calls: &mut u64) -> Stepped
     requires few { calls.old ≤ 1000 }
     ensures gives { (space : SpaceRecord) (board : Board) (memory : List ℕ) (before : SteppedRecord) (told : List Told) →
-        Gives (on_mode (granting space) (over memory (counted board calls.old) vcpu.old before told) vmcb next_rip fields.now (unoffered_so_far fields.now (mode_of fields.now)))
+        Gives (on_mode (granting space) (over memory (counted board calls.old) vcpu.old before told) vmcb next_rip fields.now (mode_of fields.now))
         memory (counted board calls.new) vcpu.new result }
     ensures more { calls.old ≤ calls.new }
     ensures few { calls.new ≤ calls.old + 1 }
 {
-    if let Some(rule) = unoffered(fields) {
+    if let Some(rule) = unoffered_mode(fields) {
         return Stepped::Ends(End::Mode { rule });
     }
     if flush_in(fields).is_some() {
@@ -141,7 +125,7 @@ fn run_found(
         (guest_of window memory.new.bytes) (counted board calls.new) vcpu.new result }
     ensures more { calls.old ≤ calls.new }
     ensures few { calls.new ≤ calls.old + 1 }
-    ensures others { SameOutside window memory.old.bytes memory.new.bytes }
+    ensures others { SameOutside window memory.old memory.new }
 {
     let vmcb = vcpu.registers.general[0];
     if let Checked::Legal = check(fields, offered(facts)) {
@@ -175,7 +159,7 @@ fn run<L: Ledger>(
         (guest_of window memory.new.bytes) (counted board calls.new) vcpu.new result }
     ensures more { calls.old ≤ calls.new }
     ensures few { calls.new ≤ calls.old + 2 }
-    ensures others { SameOutside window memory.old.bytes memory.new.bytes }
+    ensures others { SameOutside window memory.old memory.new }
     ensures steps { steps.new ≤ steps.old + 34 }
     ensures later { steps.old ≤ steps.new }
 {
@@ -226,7 +210,7 @@ fn save(memory: &mut HostMemory, window: GuestWindow, vcpu: &mut Vcpu, next_rip:
     ensures gives { (board : Board) (before : SteppedRecord) (told : List Told) →
         Gives (saved_turn (over (guest_of window memory.old.bytes) board vcpu.old before told) (slice_index vcpu.old.registers.general 0) next_rip (moved_at (guest_of window memory.old.bytes) (slice_index vcpu.old.registers.general 0)))
         (guest_of window memory.new.bytes) board vcpu.new result }
-    ensures others { SameOutside window memory.old.bytes memory.new.bytes }
+    ensures others { SameOutside window memory.old memory.new }
 {
     let address = vcpu.registers.general[0];
     match vmsave(&vcpu.registers, memory, window, address) {
@@ -260,7 +244,7 @@ pub fn move_vmcb<L: Ledger>(
         (guest_of window memory.new.bytes) (counted board calls.new) vcpu.new result }
     ensures more { calls.old ≤ calls.new }
     ensures few { calls.new ≤ calls.old + 2 }
-    ensures others { SameOutside window memory.old.bytes memory.new.bytes }
+    ensures others { SameOutside window memory.old memory.new }
     ensures steps { steps.new ≤ steps.old + 34 }
     ensures later { steps.old ≤ steps.new }
 {

@@ -1,6 +1,6 @@
 // The turn of a vcpu of one guest, and what it is among all guests.
 ghost use Rattle.std.specs.Prelude.{◌≡◌, ℕ, ◌+◌, ◌<◌, ◌≤◌, Some, None, length, slice_get, slice_set, OnOk, OnErr, IfOk, IfErr, IfSome};
-ghost use Rattle.svm_model.specs.Memory.Bytes.{IsWithin, SameOutside};
+ghost use Rattle.svm_model.specs.Memory.Bytes.{AreMarked, IsWithin, SameOutside};
 ghost use Rattle.svm_model.specs.Machine.Turns.{end_by as end_of_turn};
 ghost use Rattle.port_bus.specs.Causes.{Blames, NoneFell};
 ghost use Rattle.plain_machine.specs.GuestTurns.{facts_in, guest_turn, outcome_of, IsOutIn};
@@ -85,7 +85,7 @@ fn outcome_of(
     }
 }
 
-/// The turn of a vcpu of a guest; nothing where the guest was ended. At most 968 reads are counted.
+/// The turn of a vcpu of a guest; nothing where the guest was ended. At most 6368 reads are counted.
 #[tactic(auto, using(svm_model::proofs::WindowLemmas::windows, port_bus::proofs::Counts::counts))]
 fn turn_guest<B: Ports, L: Ledger>(
     memory: &mut HostMemory,
@@ -107,8 +107,8 @@ fn turn_guest<B: Ports, L: Ledger>(
     ensures blamed { IfErr result (λ cut. Blames cut.end (B.faults bus.old) (B.faults bus.new)) }
     ensures none_fell { NoneFell (B.faults bus.old) (B.faults bus.new) }
     ensures layout { layout slot.new ≡ layout slot.old }
-    ensures others { SameOutside slot.old.window memory.old.bytes memory.new.bytes }
-    ensures steps { steps.new ≤ steps.old + 968 }
+    ensures others { SameOutside slot.old.window memory.old memory.new }
+    ensures steps { steps.new ≤ steps.old + 6368 }
     ensures later { steps.old ≤ steps.new }
 {
     if slot.ended.is_some() {
@@ -163,7 +163,8 @@ pub fn turn_in<B: Ports, L: Ledger>(
     ensures none_fell { NoneFell (B.faults bus.old) (B.faults bus.new) }
     ensures layouts { layouts slots.new ≡ layouts slots.old }
     ensures size { length memory.new.bytes ≡ length memory.old.bytes }
-    ensures steps { steps.new ≤ steps.old + 968 }
+    ensures marked { AreMarked memory.old memory.new }
+    ensures steps { steps.new ≤ steps.old + 6368 }
     ensures later { steps.old ≤ steps.new }
 {
     let slot = &mut slots[usize::from(moment.vcpu.guest.0)];

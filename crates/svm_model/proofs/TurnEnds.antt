@@ -8,7 +8,7 @@ use Rattle.svm_model.specs.Svm.Intercepts.{invalid_exit}
 use Rattle.svm_model.specs.Svm.VmcbRules.{broken}
 use Rattle.svm_model.specs.Svm.Vmexit.{stored_exit}
 use Rattle.svm_model.specs.Svm.VmloadVmsave.{moved_at}
-use Rattle.svm_model.specs.Machine.PlainTurn.{control_of, settled, turned, turned_by, turned_in, turned_under, unless_nested, way_of}
+use Rattle.svm_model.specs.Machine.PlainTurn.{control_of, settled, turned, turned_by, turned_in, turned_under, way_of}
 use Rattle.svm_model.specs.Svm.Vmcb.{Fields, FieldValue, fields_at, has_nested_paging, value}
 use Rattle.svm_model.specs.Turn.Control.{Control, asks}
 use Rattle.svm_model.specs.Turn.Course.{Board, Flushed, Found, Left, Told, Turned, Way}
@@ -16,7 +16,6 @@ use Rattle.svm_model.specs.Turn.Play.{called, play, refuses}
 use Rattle.svm_model.specs.Turn.Work.{turn_course}
 use Rattle.svm_model.specs.declared.exits.Exit.{Exit}
 use Rattle.svm_model.specs.declared.names.End.{End}
-use Rattle.svm_model.specs.declared.names.End.TheVariants.{Mode}
 use Rattle.svm_model.specs.declared.rows.Op.{Op}
 use Rattle.svm_model.specs.declared.rows.Op.TheVariants as op
 use Rattle.svm_model.specs.declared.system.Flush.{Flush}
@@ -107,18 +106,13 @@ under-before refused control facts board memory vcpu e =
     settled-before vcpu way control facts (play way board memory [] course) _ e refl
     (last_fine vcpu way board memory [] course (turn_last control facts vcpu (pending board.apic)))
 
-nested-before : (start : Vcpu) (b : Bool) (ended rest : Turned) (e : End) → ended.vcpu.registers ≡ start.registers → IsAsBefore start rest e → IsAsBefore start (if b then ended else rest) e
-nested-before start true ended rest e same h = λ f. same
-nested-before start false ended rest e same h = h
-
 by-before : (refused : Option ℕ) (facts : Facts) (board : Board) (memory : List ℕ) (vcpu : Vcpu) (vmcb : ℕ) (found : Result Fields OutsideMemory) (e : End) → IsAsBefore vcpu (turned_by refused facts board memory vcpu vmcb found) e
 by-before refused facts board memory vcpu vmcb (Err outside) e = λ f. refl
 by-before refused facts board memory vcpu vmcb (Ok v) e =
     let way = way_of refused (Some (control_of v)) vcpu in
     let heard = over memory (called (refuses way board) board) vcpu Went [] in
-    let rest = turned_under refused (Some (control_of v)) facts heard.board memory vcpu in
-    unnoticed vcpu (refuses way board) heard (unless_nested v heard rest) e refl
-    (nested-before vcpu (has_nested_paging v) (over memory heard.board vcpu (Ends (Mode 9)) []) rest e refl (under-before refused (Some (control_of v)) facts heard.board memory vcpu e))
+    unnoticed vcpu (refuses way board) heard (turned_under refused (Some (control_of v)) facts heard.board memory vcpu) e refl
+    (under-before refused (Some (control_of v)) facts heard.board memory vcpu e)
 
 in-before : (refused : Option ℕ) (facts : Facts) (board : Board) (memory : List ℕ) (vcpu : Vcpu) (o : Option Inside) (e : End) → IsAsBefore vcpu (turned_in refused facts board memory vcpu o) e
 in-before refused facts board memory vcpu None e = under-before refused None facts board memory vcpu e

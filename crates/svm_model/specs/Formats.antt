@@ -1,4 +1,4 @@
--- Images, scripts, and printed text.
+-- Images, scripts, printed text, and the text of a trace.
 pub mod Image
 pub mod ImageBytes
 pub mod ImageFields
@@ -8,3 +8,4 @@ pub mod Script
 pub mod ScriptLines
 pub mod ScriptWords
 pub mod Text
+pub mod Trace

@@ -6,4 +6,5 @@ pub mod NestedPaging
 pub mod OuterPasses
 pub mod PageEntries
 pub mod PageTables
+pub mod PhysicalAnswers
 pub mod RegisterFile

@@ -25,6 +25,8 @@ use Rattle.svm_run.specs.declared.running.RunFault.TheVariants as fault
 use Rattle.svm_run.specs.declared.status.Status.{Status}
 use Rattle.svm_run.specs.declared.status.Status.TheVariants.{Done, Words, Input, OutsideFault, NoMemory, LeftProfile}
 use Rattle.svm_run.specs.declared.status.OutsideFault.TheVariants.{Read, Write, Device}
+use Rattle.svm_run.specs.Words.{Asked}
+use Rattle.svm_run.specs.declared.words.Work.{Work}
 use Rattle.svm_run.proofs.Events.{led, led_same, texts-grow, texts_next, texts_none}
 use Rattle.svm_run.proofs.Received.{appended-nothing, appended-twice, at_once, because, behind_cut, behind_text, cut_after, cut_behind, part_after}
 use Rattle.svm_run.proofs.Runs.{led-some, bus-none, bus-some, bus-all}
@@ -46,35 +48,35 @@ unfolding text_until
 text-before count bus j h = rw (other count (length (events_of j.image.cpus j.script)) h) refl
 
 -- of all events this is printed
-whole-text : (w v : World) (bus now : Bus) (image : Image) (script : Script) → w ≡ world_of image → v ≡ (plain_run w bus (events_of image.cpus script)).world → now ≡ (plain_run w bus (events_of image.cpus script)).bus →
-    texts_of w bus (events_of image.cpus script) ++ (outcome_after [] (led v now)).text ≡ text_until (length (events_of image.cpus script)) bus (job image script)
+whole-text : (work : Work) (w v : World) (bus now : Bus) (image : Image) (script : Script) → w ≡ world_of image → v ≡ (plain_run w bus (events_of image.cpus script)).world → now ≡ (plain_run w bus (events_of image.cpus script)).bus →
+    texts_of work w bus (events_of image.cpus script) ++ (outcome_after [] (led v now)).text ≡ text_until (length (events_of image.cpus script)) bus (job work image script)
 unfolding completed outcome_after
-whole-text w v bus now image script e f g =
-    ap (λ (l : Led). texts_of w bus (events_of image.cpus script) ++ report l.world l.bus) (led_same _ _ _ _ f g)
-    ∙ ap (λ (u : World). texts_of u bus (events_of image.cpus script) ++ report (plain_run u bus (events_of image.cpus script)).world (plain_run u bus (events_of image.cpus script)).bus) e
-    ∙ sym (text-all bus (job image script))
+whole-text work w v bus now image script e f g =
+    ap (λ (l : Led). texts_of work w bus (events_of image.cpus script) ++ report l.world l.bus) (led_same _ _ _ _ f g)
+    ∙ ap (λ (u : World). texts_of work u bus (events_of image.cpus script) ++ report (plain_run u bus (events_of image.cpus script)).world (plain_run u bus (events_of image.cpus script)).bus) e
+    ∙ sym (text-all bus (job work image script))
 
 -- the texts of so many events
-texts-some : (w : World) (bus : Bus) (image : Image) (script : Script) (count : ℕ) → w ≡ world_of image → texts_of w bus (take count (events_of image.cpus script)) ≡ events_text count bus (job image script)
+texts-some : (work : Work) (w : World) (bus : Bus) (image : Image) (script : Script) (count : ℕ) → w ≡ world_of image → texts_of work w bus (take count (events_of image.cpus script)) ≡ events_text count bus (job work image script)
 unfolding events_text
-texts-some w bus image script count e = ap (λ (u : World). texts_of u bus (take count (events_of image.cpus script))) e
+texts-some work w bus image script count e = ap (λ (u : World). texts_of work u bus (take count (events_of image.cpus script))) e
 
 -- those before the last print no more
-before-few : (w : World) (bus : Bus) (image : Image) (script : Script) (count : ℕ) → w ≡ world_of image →
-    length (events_text (count - 1) bus (job image script)) ≤ length (texts_of w bus (take count (events_of image.cpus script)))
-before-few w bus image script count e =
-    let P : List ℕ → Type 0 = λ front. length front ≤ length (texts_of w bus (take count (events_of image.cpus script))) in
-    subst P (texts-some w bus image script (count - 1) e) (texts-grow w bus (events_of image.cpus script) (count - 1) count (omega arith))
+before-few : (work : Work) (w : World) (bus : Bus) (image : Image) (script : Script) (count : ℕ) → w ≡ world_of image →
+    length (events_text (count - 1) bus (job work image script)) ≤ length (texts_of work w bus (take count (events_of image.cpus script)))
+before-few work w bus image script count e =
+    let P : List ℕ → Type 0 = λ front. length front ≤ length (texts_of work w bus (take count (events_of image.cpus script))) in
+    subst P (texts-some work w bus image script (count - 1) e) (texts-grow work w bus (events_of image.cpus script) (count - 1) count (omega arith))
 
-before-all : (w : World) (bus : Bus) (image : Image) (script : Script) → w ≡ world_of image →
-    length (events_text (length (events_of image.cpus script) - 1) bus (job image script)) ≤ length (texts_of w bus (events_of image.cpus script))
-before-all w bus image script e =
-    let P : List Event → Type 0 = λ es. length (events_text (length (events_of image.cpus script) - 1) bus (job image script)) ≤ length (texts_of w bus es) in
-    subst P (take-length (events_of image.cpus script)) (before-few w bus image script (length (events_of image.cpus script)) e)
+before-all : (work : Work) (w : World) (bus : Bus) (image : Image) (script : Script) → w ≡ world_of image →
+    length (events_text (length (events_of image.cpus script) - 1) bus (job work image script)) ≤ length (texts_of work w bus (events_of image.cpus script))
+before-all work w bus image script e =
+    let P : List Event → Type 0 = λ es. length (events_text (length (events_of image.cpus script) - 1) bus (job work image script)) ≤ length (texts_of work w bus es) in
+    subst P (take-length (events_of image.cpus script)) (before-few work w bus image script (length (events_of image.cpus script)) e)
 
 before-none : (bus : Bus) (j : Job) → length (events_text 0 bus j) ≤ 0
 unfolding events_text
-before-none bus j = texts_none (world_of j.image) bus (events_of j.image.cpus j.script)
+before-none bus j = texts_none j.work (world_of j.image) bus (events_of j.image.cpus j.script)
 
 -- there was no memory for the machine
 pub ends-unstarted : (code : ℕ) (blame : Blame) (line : List ℕ) (j : Job) (bus : Bus) (old new : Option (List ℕ)) (r : Type 0) →
@@ -108,191 +110,191 @@ received-all NoMemory old mid new before front text r s run few e cause h =
     part_after old new before front text (status_line NoMemory) r s few cause (subst P e h)
 received-all LeftProfile old mid new before front text r s run few e cause h = h ∙ ap (λ (o : Option (List ℕ)). appended o text) e ∙ appended-twice old front text
 
-pub ends-finished : (status : Status) (w v : World) (bus now : Bus) (image : Image) (script : Script) (old mid new : Option (List ℕ)) (r s : Type 0) →
-    w ≡ world_of image → v ≡ (plain_run w bus (events_of image.cpus script)).world → now ≡ (plain_run w bus (events_of image.cpus script)).bus → mid ≡ appended old (texts_of w bus (events_of image.cpus script)) →
+pub ends-finished : (work : Work) (status : Status) (w v : World) (bus now : Bus) (image : Image) (script : Script) (old mid new : Option (List ℕ)) (r s : Type 0) →
+    w ≡ world_of image → v ≡ (plain_run w bus (events_of image.cpus script)).world → now ≡ (plain_run w bus (events_of image.cpus script)).bus → mid ≡ appended old (texts_of work w bus (events_of image.cpus script)) →
     ((count : ℕ) → IsReached (meaning_of status).events count count) → ((count : ℕ) (b : Bus) (j : Job) → IsRefusedAt (meaning_of status).events count b j) → (IsBeforeRun status → ⊥) → (r → s) →
     Receives (meaning_of status).printed [] (outcome_after [] (led v now)).text (status_line status) mid new r →
-    EndsRun (meaning_of status) (status_line status) (job image script) bus now old new s
-ends-finished status w v bus now image script old mid new r s e f g texts h k run cause p =
-    let before = events_text (length (events_of image.cpus script) - 1) bus (job image script) in
-    let all = received-all status old mid new before (texts_of w bus (events_of image.cpus script)) (outcome_after [] (led v now)).text r s run (before-all w bus image script e) texts cause p in
+    EndsRun (meaning_of status) (status_line status) (job work image script) bus now old new s
+ends-finished work status w v bus now image script old mid new r s e f g texts h k run cause p =
+    let before = events_text (length (events_of image.cpus script) - 1) bus (job work image script) in
+    let all = received-all status old mid new before (texts_of work w bus (events_of image.cpus script)) (outcome_after [] (led v now)).text r s run (before-all work w bus image script e) texts cause p in
     record {
       count = length (events_of image.cpus script);
       reached = h (length (events_of image.cpus script));
-      refused_at = k (length (events_of image.cpus script)) bus (job image script);
-      bus = bus-all w bus now image script e g;
+      refused_at = k (length (events_of image.cpus script)) bus (job work image script);
+      bus = bus-all work w bus now image script e g;
       printed =
           let P : List ℕ → Type 0 = λ text. Receives (meaning_of status).printed before text (status_line status) old new s in
-          subst P (whole-text w v bus now image script e f g) all;
+          subst P (whole-text work w v bus now image script e f g) all;
     }
 
 -- The run was ended before.
 
 -- what was printed until a number of events that are not all
-text-at : (w : World) (bus : Bus) (image : Image) (script : Script) (count : ℕ) → w ≡ world_of image → count < length (events_of image.cpus script) →
-    text_until count bus (job image script) ≡ texts_of w bus (take count (events_of image.cpus script))
-text-at w bus image script count e h = text-before count bus (job image script) h ∙ sym (texts-some w bus image script count e)
+text-at : (work : Work) (w : World) (bus : Bus) (image : Image) (script : Script) (count : ℕ) → w ≡ world_of image → count < length (events_of image.cpus script) →
+    text_until count bus (job work image script) ≡ texts_of work w bus (take count (events_of image.cpus script))
+text-at work w bus image script count e h = text-before count bus (job work image script) h ∙ sym (texts-some work w bus image script count e)
 
 -- the bus refused what an event handed it
-ends-refused : (code : ℕ) (blame : Blame) (line : List ℕ) (w : World) (bus now : Bus) (image : Image) (script : Script) (old mid new : Option (List ℕ)) (r : Type 0) →
-    w ≡ world_of image → IsCutAt w (events_of image.cpus script) bus now old mid → ReceivesLine mid new line r →
-    EndsRun (meaning code NotAllEvents TextThenLine blame) line (job image script) bus now old new r
-ends-refused code blame line w bus now image script old mid new r e cut h =
-    let j = job image script in
+ends-refused : (work : Work) (code : ℕ) (blame : Blame) (line : List ℕ) (w : World) (bus now : Bus) (image : Image) (script : Script) (old mid new : Option (List ℕ)) (r : Type 0) →
+    w ≡ world_of image → IsCutAt work w (events_of image.cpus script) bus now old mid → ReceivesLine mid new line r →
+    EndsRun (meaning code NotAllEvents TextThenLine blame) line (job work image script) bus now old new r
+ends-refused work code blame line w bus now image script old mid new r e cut h =
+    let j = job work image script in
     let stop = cut.stopped in
-    let there : now ≡ (led_until stop.count bus j).bus = bus-some w bus now image script stop.count e stop.bus in
+    let there : now ≡ (led_until stop.count bus j).bus = bus-some work w bus now image script stop.count e stop.bus in
     record {
       count = stop.count;
       reached = stop.short;
       refused_at =
           let P : World → Type 0 = λ u. HandsOverIt u (led_until stop.count bus j).bus (slice_get (events_of image.cpus script) stop.count) in
           let Q : Bus → Type 0 = λ b. HandsOverIt (plain_run w bus (take stop.count (events_of image.cpus script))).world b (slice_get (events_of image.cpus script) stop.count) in
-          subst P (ap (λ (l : Led). l.world) (led-some w bus image script stop.count e)) (subst Q there cut.refused);
+          subst P (ap (λ (l : Led). l.world) (led-some work w bus image script stop.count e)) (subst Q there cut.refused);
       bus = there;
       printed =
           let P : Option (List ℕ) → Type 0 = λ o. ReceivesLine o new line r in
-          subst P (stop.printed ∙ ap (appended old) (sym (text-at w bus image script stop.count e stop.short))) h;
+          subst P (stop.printed ∙ ap (appended old) (sym (text-at work w bus image script stop.count e stop.short))) h;
     }
 
 -- there was no memory for an event
-ends-stopped : (code : ℕ) (blame : Blame) (line : List ℕ) (w : World) (bus now : Bus) (image : Image) (script : Script) (old mid new : Option (List ℕ)) (r : Type 0) →
-    w ≡ world_of image → IsStoppedAt w (events_of image.cpus script) bus now old mid → ReceivesLine mid new line r →
-    EndsRun (meaning code FirstEvents PartThenLine blame) line (job image script) bus now old new r
-ends-stopped code blame line w bus now image script old mid new r e stop h =
-    let j = job image script in
-    let front = texts_of w bus (take stop.count (events_of image.cpus script)) in
+ends-stopped : (work : Work) (code : ℕ) (blame : Blame) (line : List ℕ) (w : World) (bus now : Bus) (image : Image) (script : Script) (old mid new : Option (List ℕ)) (r : Type 0) →
+    w ≡ world_of image → IsStoppedAt work w (events_of image.cpus script) bus now old mid → ReceivesLine mid new line r →
+    EndsRun (meaning code FirstEvents PartThenLine blame) line (job work image script) bus now old new r
+ends-stopped work code blame line w bus now image script old mid new r e stop h =
+    let j = job work image script in
+    let front = texts_of work w bus (take stop.count (events_of image.cpus script)) in
     record {
       count = stop.count;
       reached = omega (arith, stop.short);
       refused_at = tt;
-      bus = bus-some w bus now image script stop.count e stop.bus;
+      bus = bus-some work w bus now image script stop.count e stop.bus;
       printed =
           let P : List ℕ → Type 0 = λ text. ReceivesPart old new (events_text (stop.count - 1) bus j) text line r in
-          subst P (append-nil front ∙ sym (text-at w bus image script stop.count e stop.short))
-          (behind_text old mid new (events_text (stop.count - 1) bus j) front [] line r (before-few w bus image script stop.count e) stop.printed h);
+          subst P (append-nil front ∙ sym (text-at work w bus image script stop.count e stop.short))
+          (behind_text old mid new (events_text (stop.count - 1) bus j) front [] line r (before-few work w bus image script stop.count e) stop.printed h);
     }
 
 -- The sink refused what an event prints.
 
-rest-all : (w : World) (bus : Bus) (image : Image) (script : Script) (count : ℕ) → w ≡ world_of image → count ≡ length (events_of image.cpus script) →
-    (rest : List ℕ) × (text_until count bus (job image script) ≡ texts_of w bus (take count (events_of image.cpus script)) ++ rest)
-rest-all w bus image script count e same =
+rest-all : (work : Work) (w : World) (bus : Bus) (image : Image) (script : Script) (count : ℕ) → w ≡ world_of image → count ≡ length (events_of image.cpus script) →
+    (rest : List ℕ) × (text_until count bus (job work image script) ≡ texts_of work w bus (take count (events_of image.cpus script)) ++ rest)
+rest-all work w bus image script count e same =
     let now = plain_run w bus (events_of image.cpus script) in
     let rest = (outcome_after [] (led now.world now.bus)).text in
     let whole : take count (events_of image.cpus script) ≡ events_of image.cpus script = ap (λ n. take n (events_of image.cpus script)) same ∙ take-length (events_of image.cpus script) in (
       rest,
-      ap (λ n. text_until n bus (job image script)) same ∙ sym (whole-text w now.world bus now.bus image script e refl refl)
-          ∙ ap (λ es. texts_of w bus es ++ rest) (sym whole),
+      ap (λ n. text_until n bus (job work image script)) same ∙ sym (whole-text work w now.world bus now.bus image script e refl refl)
+          ∙ ap (λ es. texts_of work w bus es ++ rest) (sym whole),
     )
 
 -- what stands behind the texts of so many events: nothing, or the report
-rest-of : (w : World) (bus : Bus) (image : Image) (script : Script) (count : ℕ) → w ≡ world_of image → count ≤ length (events_of image.cpus script) →
-    (rest : List ℕ) × (text_until count bus (job image script) ≡ texts_of w bus (take count (events_of image.cpus script)) ++ rest)
-rest-of w bus image script count e h =
-    elim (eq-or-lt_of_le h) [ inl same ↦ rest-all w bus image script count e same | inr less ↦ ([], text-at w bus image script count e less ∙ sym (append-nil _)) ]
+rest-of : (work : Work) (w : World) (bus : Bus) (image : Image) (script : Script) (count : ℕ) → w ≡ world_of image → count ≤ length (events_of image.cpus script) →
+    (rest : List ℕ) × (text_until count bus (job work image script) ≡ texts_of work w bus (take count (events_of image.cpus script)) ++ rest)
+rest-of work w bus image script count e h =
+    elim (eq-or-lt_of_le h) [ inl same ↦ rest-all work w bus image script count e same | inr less ↦ ([], text-at work w bus image script count e less ∙ sym (append-nil _)) ]
 
 -- a number of events, and the one behind them that was not wholly printed
-abbrev IsBehind : World → Bus → Bus → Image → Script → ℕ → Option (List ℕ) → Option (List ℕ) → Option Event → Type 0
-IsBehind w bus now image script n old mid event =
+abbrev IsBehind : Work → World → Bus → Bus → Image → Script → ℕ → Option (List ℕ) → Option (List ℕ) → Option Event → Type 0
+IsBehind work w bus now image script n old mid event =
     (n < length (events_of image.cpus script)) × (now ≡ (plain_run w bus (take (n + 1) (events_of image.cpus script))).bus)
-    × IsCutShort (appended old (texts_of w bus (take n (events_of image.cpus script)))) mid (text_at (plain_run w bus (take n (events_of image.cpus script))).world event)
+    × IsCutShort (appended old (texts_of work w bus (take n (events_of image.cpus script)))) mid (text_at work (plain_run w bus (take n (events_of image.cpus script))) event)
 
 -- the text that it was cut of
-cut-text : (w : World) (bus : Bus) (image : Image) (script : Script) (n : ℕ) (event : Event) → w ≡ world_of image → n < length (events_of image.cpus script) → slice_get (events_of image.cpus script) n ≡ Some event →
-    (rest : List ℕ) × (text_until (n + 1) bus (job image script) ≡ texts_of w bus (take n (events_of image.cpus script)) ++ (event_text (plain_run w bus (take n (events_of image.cpus script))).world event ++ rest))
-cut-text w bus image script n event e short there =
-    let more = rest-of w bus image script (n + 1) e (omega (arith, short)) in (
+cut-text : (work : Work) (w : World) (bus : Bus) (image : Image) (script : Script) (n : ℕ) (event : Event) → w ≡ world_of image → n < length (events_of image.cpus script) → slice_get (events_of image.cpus script) n ≡ Some event →
+    (rest : List ℕ) × (text_until (n + 1) bus (job work image script) ≡ texts_of work w bus (take n (events_of image.cpus script)) ++ (event_text work (plain_run w bus (take n (events_of image.cpus script))).world (plain_run w bus (take n (events_of image.cpus script))).bus event ++ rest))
+cut-text work w bus image script n event e short there =
+    let more = rest-of work w bus image script (n + 1) e (omega (arith, short)) in (
       more.0,
-      more.1 ∙ ap (λ front. front ++ more.0) (texts_next w bus (events_of image.cpus script) n event there)
-          ∙ append_assoc (texts_of w bus (take n (events_of image.cpus script))) (event_text (plain_run w bus (take n (events_of image.cpus script))).world event) more.0,
+      more.1 ∙ ap (λ front. front ++ more.0) (texts_next work w bus (events_of image.cpus script) n event there)
+          ∙ append_assoc (texts_of work w bus (take n (events_of image.cpus script))) (event_text work (plain_run w bus (take n (events_of image.cpus script))).world (plain_run w bus (take n (events_of image.cpus script))).bus event) more.0,
     )
 
 -- all that the events before it print
-before-it : (w : World) (bus : Bus) (image : Image) (script : Script) (n : ℕ) → w ≡ world_of image →
-    length (events_text (n + 1 - 1) bus (job image script)) ≤ length (texts_of w bus (take n (events_of image.cpus script)))
-before-it w bus image script n e =
+before-it : (work : Work) (w : World) (bus : Bus) (image : Image) (script : Script) (n : ℕ) → w ≡ world_of image →
+    length (events_text (n + 1 - 1) bus (job work image script)) ≤ length (texts_of work w bus (take n (events_of image.cpus script)))
+before-it work w bus image script n e =
     let same : n ≡ n + 1 - 1 = omega arith in
-    let P : ℕ → Type 0 = λ m. length (events_text m bus (job image script)) ≤ length (texts_of w bus (take n (events_of image.cpus script))) in
-    let Q : List ℕ → Type 0 = λ text. length text ≤ length (texts_of w bus (take n (events_of image.cpus script))) in
-    subst P same (subst Q (texts-some w bus image script n e) (omega arith))
+    let P : ℕ → Type 0 = λ m. length (events_text m bus (job work image script)) ≤ length (texts_of work w bus (take n (events_of image.cpus script))) in
+    let Q : List ℕ → Type 0 = λ text. length text ≤ length (texts_of work w bus (take n (events_of image.cpus script))) in
+    subst P same (subst Q (texts-some work w bus image script n e) (omega arith))
 
 nothing-more : (mid new : Option (List ℕ)) (r : Type 0) → ReceivesLine mid new [] r → mid ≡ new
 nothing-more mid new r h = elim h [ inl e ↦ sym (e ∙ appended-nothing mid) | inr p ↦ absurd (let short = p.0.short in omega (arith, short)) ]
 
 -- the sink had a fault
-ends-cut : (code : ℕ) (blame : Blame) (w : World) (bus now : Bus) (image : Image) (script : Script) (n : ℕ) (old mid new : Option (List ℕ)) (event : Option Event) (r : Type 0) →
-    w ≡ world_of image → slice_get (events_of image.cpus script) n ≡ event → IsBehind w bus now image script n old mid event → ReceivesLine mid new [] r →
-    EndsRun (meaning code EventsToLine PartOfText blame) [] (job image script) bus now old new r
-ends-cut code blame w bus now image script n old mid new None r e there cut h = absurd (let short = cut.2.short in omega (arith, short))
-ends-cut code blame w bus now image script n old mid new (Some event) r e there cut h =
-    let j = job image script in
-    let text = cut-text w bus image script n event e cut.0 there in
+ends-cut : (work : Work) (code : ℕ) (blame : Blame) (w : World) (bus now : Bus) (image : Image) (script : Script) (n : ℕ) (old mid new : Option (List ℕ)) (event : Option Event) (r : Type 0) →
+    w ≡ world_of image → slice_get (events_of image.cpus script) n ≡ event → IsBehind work w bus now image script n old mid event → ReceivesLine mid new [] r →
+    EndsRun (meaning code EventsToLine PartOfText blame) [] (job work image script) bus now old new r
+ends-cut work code blame w bus now image script n old mid new None r e there cut h = absurd (let short = cut.2.short in omega (arith, short))
+ends-cut work code blame w bus now image script n old mid new (Some event) r e there cut h =
+    let j = job work image script in
+    let text = cut-text work w bus image script n event e cut.0 there in
     let before = events_text (n + 1 - 1) bus j in
     record {
       count = n + 1;
       reached = omega (arith, cut.0);
       refused_at = tt;
-      bus = bus-some w bus now image script (n + 1) e cut.1;
+      bus = bus-some work w bus now image script (n + 1) e cut.1;
       printed =
           let P : List ℕ → Type 0 = λ t. IsCutBehind old new before t in
-          let Q : Option (List ℕ) → Type 0 = λ o. IsCutShort (appended old (texts_of w bus (take n (events_of image.cpus script)))) o (event_text (plain_run w bus (take n (events_of image.cpus script))).world event) in
+          let Q : Option (List ℕ) → Type 0 = λ o. IsCutShort (appended old (texts_of work w bus (take n (events_of image.cpus script)))) o (event_text work (plain_run w bus (take n (events_of image.cpus script))).world (plain_run w bus (take n (events_of image.cpus script))).bus event) in
           subst P (sym text.1)
-          (cut_behind old new before _ _ text.0 (before-it w bus image script n e) (subst Q (nothing-more mid new r h) cut.2));
+          (cut_behind old new before _ _ text.0 (before-it work w bus image script n e) (subst Q (nothing-more mid new r h) cut.2));
     }
 
 -- the sink had no memory
-ends-full : (code : ℕ) (blame : Blame) (line : List ℕ) (w : World) (bus now : Bus) (image : Image) (script : Script) (n : ℕ) (old mid new : Option (List ℕ)) (event : Option Event) (r : Type 0) →
-    w ≡ world_of image → slice_get (events_of image.cpus script) n ≡ event → IsBehind w bus now image script n old mid event → ReceivesLine mid new line r →
-    EndsRun (meaning code FirstEvents PartThenLine blame) line (job image script) bus now old new r
-ends-full code blame line w bus now image script n old mid new None r e there cut h = absurd (let short = cut.2.short in omega (arith, short))
-ends-full code blame line w bus now image script n old mid new (Some event) r e there cut h =
-    let j = job image script in
-    let text = cut-text w bus image script n event e cut.0 there in
+ends-full : (work : Work) (code : ℕ) (blame : Blame) (line : List ℕ) (w : World) (bus now : Bus) (image : Image) (script : Script) (n : ℕ) (old mid new : Option (List ℕ)) (event : Option Event) (r : Type 0) →
+    w ≡ world_of image → slice_get (events_of image.cpus script) n ≡ event → IsBehind work w bus now image script n old mid event → ReceivesLine mid new line r →
+    EndsRun (meaning code FirstEvents PartThenLine blame) line (job work image script) bus now old new r
+ends-full work code blame line w bus now image script n old mid new None r e there cut h = absurd (let short = cut.2.short in omega (arith, short))
+ends-full work code blame line w bus now image script n old mid new (Some event) r e there cut h =
+    let j = job work image script in
+    let text = cut-text work w bus image script n event e cut.0 there in
     let before = events_text (n + 1 - 1) bus j in
     record {
       count = n + 1;
       reached = omega (arith, cut.0);
       refused_at = tt;
-      bus = bus-some w bus now image script (n + 1) e cut.1;
+      bus = bus-some work w bus now image script (n + 1) e cut.1;
       printed =
           let P : List ℕ → Type 0 = λ t. ReceivesPart old new before t line r in
           subst P (sym text.1)
-          (behind_cut old mid new before _ _ text.0 line r (before-it w bus image script n e) cut.2 h);
+          (behind_cut old mid new before _ _ text.0 line r (before-it work w bus image script n e) cut.2 h);
     }
 
 -- whatever ended the run before all was done
-pub ends-early : (fault : RunFault) (w : World) (bus now : Bus) (image : Image) (script : Script) (old mid new : Option (List ℕ)) (r s : Type 0) → w ≡ world_of image →
-    EndsEvents fault w (events_of image.cpus script) bus now old mid → (r → s) → ReceivesLine mid new (status_line (status_of fault)) r →
-    EndsRun (meaning_of (status_of fault)) (status_line (status_of fault)) (job image script) bus now old new s
-ends-early fault.NoMemory w bus now image script old mid new r s e stop cause h = ends-stopped _ _ _ w bus now image script old mid new s e stop (because mid new _ r s cause h)
-ends-early (fault.Bus (FailedDevice device)) w bus now image script old mid new r s e stop cause h = ends-refused _ _ _ w bus now image script old mid new s e stop (because mid new _ r s cause h)
-ends-early (fault.Bus NoRoom) w bus now image script old mid new r s e stop cause h = ends-stopped _ _ _ w bus now image script old mid new s e stop.stopped (because mid new _ r s cause h)
-ends-early (fault.Sink sink.Failed) w bus now image script old mid new r s e stop cause h =
-    ends-cut _ _ w bus now image script stop.count old mid new (slice_get (events_of image.cpus script) stop.count) s e refl (stop.short, stop.bus, stop.printed) (because mid new _ r s cause h)
-ends-early (fault.Sink sink.NoMemory) w bus now image script old mid new r s e stop cause h =
-    ends-full _ _ _ w bus now image script stop.count old mid new (slice_get (events_of image.cpus script) stop.count) s e refl (stop.short, stop.bus, stop.printed) (because mid new _ r s cause h)
+pub ends-early : (work : Work) (fault : RunFault) (w : World) (bus now : Bus) (image : Image) (script : Script) (old mid new : Option (List ℕ)) (r s : Type 0) → w ≡ world_of image →
+    EndsEvents work fault w (events_of image.cpus script) bus now old mid → (r → s) → ReceivesLine mid new (status_line (status_of fault)) r →
+    EndsRun (meaning_of (status_of fault)) (status_line (status_of fault)) (job work image script) bus now old new s
+ends-early work fault.NoMemory w bus now image script old mid new r s e stop cause h = ends-stopped work _ _ _ w bus now image script old mid new s e stop (because mid new _ r s cause h)
+ends-early work (fault.Bus (FailedDevice device)) w bus now image script old mid new r s e stop cause h = ends-refused work _ _ _ w bus now image script old mid new s e stop (because mid new _ r s cause h)
+ends-early work (fault.Bus NoRoom) w bus now image script old mid new r s e stop cause h = ends-stopped work _ _ _ w bus now image script old mid new s e stop.stopped (because mid new _ r s cause h)
+ends-early work (fault.Unprinted sink.Failed) w bus now image script old mid new r s e stop cause h =
+    ends-cut work _ _ w bus now image script stop.count old mid new (slice_get (events_of image.cpus script) stop.count) s e refl (stop.short, stop.bus, stop.printed) (because mid new _ r s cause h)
+ends-early work (fault.Unprinted sink.NoMemory) w bus now image script old mid new r s e stop cause h =
+    ends-full work _ _ _ w bus now image script stop.count old mid new (slice_get (events_of image.cpus script) stop.count) s e refl (stop.short, stop.bus, stop.printed) (because mid new _ r s cause h)
 
 -- its status is not determined, comes of a run, and has a cause
 pub undetermined : (fault : RunFault) → IsDetermined (status_of fault) → ⊥
 undetermined fault.NoMemory h = h
 undetermined (fault.Bus (FailedDevice device)) h = h
 undetermined (fault.Bus NoRoom) h = h
-undetermined (fault.Sink sink.Failed) h = h
-undetermined (fault.Sink sink.NoMemory) h = h
+undetermined (fault.Unprinted sink.Failed) h = h
+undetermined (fault.Unprinted sink.NoMemory) h = h
 
 pub started : (fault : RunFault) → IsBeforeRun (status_of fault) → ⊥
 started fault.NoMemory h = h
 started (fault.Bus (FailedDevice device)) h = h
 started (fault.Bus NoRoom) h = h
-started (fault.Sink sink.Failed) h = h
-started (fault.Sink sink.NoMemory) h = h
+started (fault.Unprinted sink.Failed) h = h
+started (fault.Unprinted sink.NoMemory) h = h
 
 pub caused : (fault : RunFault) (s t k l m : ℕ) (d e : List (Option ℕ)) → l ≤ m → IsOfCounts fault d e k l → HasCause (meaning_of (status_of fault)).blame s t k m d e
 caused fault.NoMemory s t k l m d e less h = tt
 caused (fault.Bus (FailedDevice device)) s t k l m d e less h = h
 caused (fault.Bus NoRoom) s t k l m d e less h = tt
-caused (fault.Sink sink.Failed) s t k l m d e less h = omega (arith, h, less)
-caused (fault.Sink sink.NoMemory) s t k l m d e less h = tt
+caused (fault.Unprinted sink.Failed) s t k l m d e less h = omega (arith, h, less)
+caused (fault.Unprinted sink.NoMemory) s t k l m d e less h = tt
 
 -- the status that is answered is the one whose line was printed
 pub answered : (answer status : Status) (j : Job) (before after : Bus) (old new : Option (List ℕ)) (r : Type 0) → answer ≡ status →
@@ -348,7 +350,7 @@ ends-by (Ok j) status s t bus old new r h k = unread status j s t bus old new r 
 ends-by (Err told) status s t bus old new r h k = untold status told s t bus old new r h k
 
 -- the input could not be read, or is refused
-pub ends-unread : (files : Option Files) (names : Option (List ℕ × List ℕ)) (answer status : Status) (s t : ℕ) (bus : Bus) (old new : Option (List ℕ)) (r : Type 0) →
+pub ends-unread : (files : Option Files) (names : Option Asked) (answer status : Status) (s t : ℕ) (bus : Bus) (old new : Option (List ℕ)) (r : Type 0) →
     answer ≡ status → IsOfReading status s t → ReceivesLine old new (status_line status) r →
     IfSome files (λ _. Ends answer (job_with_names files names) bus bus old new r)
 ends-unread None names answer status s t bus old new r e h k = tt

@@ -8,6 +8,7 @@ use Rattle.svm_model.specs.Machine.World.{World}
 use Rattle.svm_model.specs.declared.names.Event.{Event}
 use Rattle.byte_shelf.specs.Sink.{appended}
 use Rattle.svm_run.specs.Outcome.{event_text, texts_of}
+use Rattle.svm_run.specs.declared.words.Work.{Work}
 use Rattle.svm_run.proofs.Received.{appended-nothing, appended-twice}
 
 -- what an event makes of what a run led to
@@ -43,52 +44,52 @@ led_all w bus events n led h whole = ap (λ es. plain_run w bus es) (sym (take_a
 
 -- What first events print.
 
-texts-more : (w : World) (bus : Bus) (events : List Event) (event : Event) → texts_of w bus (events ++ event ∷ []) ≡ texts_of w bus events ++ event_text (plain_run w bus events).world event
+texts-more : (work : Work) (w : World) (bus : Bus) (events : List Event) (event : Event) → texts_of work w bus (events ++ event ∷ []) ≡ texts_of work w bus events ++ event_text work (plain_run w bus events).world (plain_run w bus events).bus event
 unfolding texts_of
-texts-more w bus [] event = append-nil (event_text w event)
-texts-more w bus (e ∷ events) event =
-    ap (λ rest. event_text w e ++ rest) (texts-more (plain_event w bus e).world (plain_event w bus e).bus events event)
-    ∙ sym (append_assoc (event_text w e) _ _)
+texts-more work w bus [] event = append-nil (event_text work w bus event)
+texts-more work w bus (e ∷ events) event =
+    ap (λ rest. event_text work w bus e ++ rest) (texts-more work (plain_event w bus e).world (plain_event w bus e).bus events event)
+    ∙ sym (append_assoc (event_text work w bus e) _ _)
 
 -- the texts of one event more
-pub texts_next : (w : World) (bus : Bus) (events : List Event) (n : ℕ) (event : Event) → slice_get events n ≡ Some event →
-    texts_of w bus (take (n + 1) events) ≡ texts_of w bus (take n events) ++ event_text (plain_run w bus (take n events)).world event
-texts_next w bus events n event there =
-    ap (λ k. texts_of w bus (take k events)) (add-one n) ∙ ap (λ es. texts_of w bus es) (taken-suc events n event there) ∙ texts-more w bus (take n events) event
+pub texts_next : (work : Work) (w : World) (bus : Bus) (events : List Event) (n : ℕ) (event : Event) → slice_get events n ≡ Some event →
+    texts_of work w bus (take (n + 1) events) ≡ texts_of work w bus (take n events) ++ event_text work (plain_run w bus (take n events)).world (plain_run w bus (take n events)).bus event
+texts_next work w bus events n event there =
+    ap (λ k. texts_of work w bus (take k events)) (add-one n) ∙ ap (λ es. texts_of work w bus es) (taken-suc events n event there) ∙ texts-more work w bus (take n events) event
 
 -- what was received before it and of it
-pub received_next : (w : World) (bus : Bus) (events : List Event) (n : ℕ) (event : Event) (led : Led) (old mid new : Option (List ℕ)) → plain_run w bus (take n events) ≡ led → slice_get events n ≡ Some event →
-    mid ≡ appended old (texts_of w bus (take n events)) → new ≡ appended mid (event_text led.world event) → new ≡ appended old (texts_of w bus (take (n + 1) events))
-received_next w bus events n event led old mid new h there before of =
-    of ∙ ap (λ (o : Option (List ℕ)). appended o (event_text led.world event)) before ∙ appended-twice old _ _
-    ∙ ap (λ (l : Led). appended old (texts_of w bus (take n events) ++ event_text l.world event)) (sym h) ∙ ap (appended old) (sym (texts_next w bus events n event there))
+pub received_next : (work : Work) (w : World) (bus : Bus) (events : List Event) (n : ℕ) (event : Event) (led : Led) (old mid new : Option (List ℕ)) → plain_run w bus (take n events) ≡ led → slice_get events n ≡ Some event →
+    mid ≡ appended old (texts_of work w bus (take n events)) → new ≡ appended mid (event_text work led.world led.bus event) → new ≡ appended old (texts_of work w bus (take (n + 1) events))
+received_next work w bus events n event led old mid new h there before of =
+    of ∙ ap (λ (o : Option (List ℕ)). appended o (event_text work led.world led.bus event)) before ∙ appended-twice old _ _
+    ∙ ap (λ (l : Led). appended old (texts_of work w bus (take n events) ++ event_text work l.world l.bus event)) (sym h) ∙ ap (appended old) (sym (texts_next work w bus events n event there))
 
 -- the texts of all events
-pub texts_all : (w : World) (bus : Bus) (events : List Event) (n : ℕ) (old new : Option (List ℕ)) → new ≡ appended old (texts_of w bus (take n events)) → length events ≡ n → new ≡ appended old (texts_of w bus events)
-texts_all w bus events n old new h whole = h ∙ ap (λ es. appended old (texts_of w bus es)) (take_all n events (omega arith))
+pub texts_all : (work : Work) (w : World) (bus : Bus) (events : List Event) (n : ℕ) (old new : Option (List ℕ)) → new ≡ appended old (texts_of work w bus (take n events)) → length events ≡ n → new ≡ appended old (texts_of work w bus events)
+texts_all work w bus events n old new h whole = h ∙ ap (λ es. appended old (texts_of work w bus es)) (take_all n events (omega arith))
 
 -- fewer events print no more
-pub texts-grow : (w : World) (bus : Bus) (events : List Event) (m n : ℕ) → m ≤ n → length (texts_of w bus (take m events)) ≤ length (texts_of w bus (take n events))
+pub texts-grow : (work : Work) (w : World) (bus : Bus) (events : List Event) (m n : ℕ) → m ≤ n → length (texts_of work w bus (take m events)) ≤ length (texts_of work w bus (take n events))
 unfolding texts_of
-texts-grow w bus [] zero n h = omega arith
-texts-grow w bus [] (suc m) n h = omega arith
-texts-grow w bus (e ∷ events) zero n h = omega arith
-texts-grow w bus (e ∷ events) (suc m) zero h = absurd (omega arith)
-texts-grow w bus (e ∷ events) (suc m) (suc n) h =
+texts-grow work w bus [] zero n h = omega arith
+texts-grow work w bus [] (suc m) n h = omega arith
+texts-grow work w bus (e ∷ events) zero n h = omega arith
+texts-grow work w bus (e ∷ events) (suc m) zero h = absurd (omega arith)
+texts-grow work w bus (e ∷ events) (suc m) (suc n) h =
     omega (
       arith,
-      length-append (event_text w e) (texts_of (plain_event w bus e).world (plain_event w bus e).bus (take m events)),
-      length-append (event_text w e) (texts_of (plain_event w bus e).world (plain_event w bus e).bus (take n events)),
-      texts-grow (plain_event w bus e).world (plain_event w bus e).bus events m n (omega arith),
+      length-append (event_text work w bus e) (texts_of work (plain_event w bus e).world (plain_event w bus e).bus (take m events)),
+      length-append (event_text work w bus e) (texts_of work (plain_event w bus e).world (plain_event w bus e).bus (take n events)),
+      texts-grow work (plain_event w bus e).world (plain_event w bus e).bus events m n (omega arith),
     )
 
-pub received_none : (w : World) (bus : Bus) (written : Option (List ℕ)) → written ≡ appended written (texts_of w bus [])
+pub received_none : (work : Work) (w : World) (bus : Bus) (written : Option (List ℕ)) → written ≡ appended written (texts_of work w bus [])
 unfolding texts_of
-received_none w bus written = sym (appended-nothing written)
+received_none work w bus written = sym (appended-nothing written)
 
 -- nothing is printed before the first
-pub texts_none : (w : World) (bus : Bus) (events : List Event) → length (texts_of w bus (take 0 events)) ≤ 0
+pub texts_none : (work : Work) (w : World) (bus : Bus) (events : List Event) → length (texts_of work w bus (take 0 events)) ≤ 0
 unfolding texts_of
-texts_none w bus events = omega arith
+texts_none work w bus events = omega arith
 
 pub ruleset events = (led_next, led_all, texts_all, received_none)

@@ -1,3 +1,4 @@
+pub mod BlockLemmas
 pub mod Endings
 pub mod Events
 pub mod Firsts
@@ -6,3 +7,4 @@ pub mod Reports
 pub mod Runs
 pub mod Shown
 pub mod Stops
+pub mod TracedLemmas

@@ -1,5 +1,5 @@
 -- What a run of all events leads to, and how many there are.
-use Rattle.std.proofs.Common.{◌≡◌, ◌∙◌, ℕ, ◌+◌, ◌*◌, ◌≤◌, List, [], length, take, ap, refl, sym, subst, arith}
+use Rattle.std.proofs.Common.{◌≡◌, ◌∙◌, ℕ, List, [], length, take, ap, refl, sym, subst, arith}
 use Rattle.std.proofs.Math.Seq.{take-length}
 use Rattle.svm_model.specs.Machine.Bus.{Bus}
 use Rattle.svm_model.specs.Formats.Image.{Image}
@@ -10,13 +10,15 @@ use Rattle.svm_model.specs.declared.names.Event.{Event}
 use Rattle.svm_model.proofs.WorldLemmas.{run-counted}
 use Rattle.svm_run.specs.Jobs.{Job, job}
 use Rattle.svm_run.specs.Outcome.{completed, outcome_after, led_until}
+use Rattle.svm_run.specs.Stops.{AreRead}
+use Rattle.svm_run.specs.declared.words.Work.{Work}
 use Rattle.svm_run.proofs.Events.{led, led_same}
 
 -- the status is that of where the run leads
-pub status-completed : (w v : World) (bus now : Bus) (image : Image) (script : Script) → w ≡ world_of image → v ≡ (plain_run w bus (events_of image.cpus script)).world →
-    now ≡ (plain_run w bus (events_of image.cpus script)).bus → (outcome_after [] (led v now)).status ≡ (completed bus (job image script)).status
+pub status-completed : (work : Work) (w v : World) (bus now : Bus) (image : Image) (script : Script) → w ≡ world_of image → v ≡ (plain_run w bus (events_of image.cpus script)).world →
+    now ≡ (plain_run w bus (events_of image.cpus script)).bus → (outcome_after [] (led v now)).status ≡ (completed bus (job work image script)).status
 unfolding completed outcome_after
-status-completed w v bus now image script e f g =
+status-completed work w v bus now image script e f g =
     ap (λ (l : Led). (outcome_after [] l).status) (led_same _ _ _ _ f g) ∙ ap (λ u. (outcome_after [] (plain_run u bus (events_of image.cpus script))).status) e
 
 starts-at-0 : (image : Image) → (world_of image).event ≡ 0
@@ -24,17 +26,17 @@ unfolding world_of
 starts-at-0 image = refl
 
 -- a run has the script's events
-events-completed : (bus : Bus) (image : Image) (script : Script) → length (events_of image.cpus script) ≡ script.events → (completed bus (job image script)).events ≡ script.events
+events-completed : (work : Work) (bus : Bus) (image : Image) (script : Script) → length (events_of image.cpus script) ≡ script.events → (completed bus (job work image script)).events ≡ script.events
 unfolding completed outcome_after
-events-completed bus image script whole =
+events-completed work bus image script whole =
     omega (arith, run-counted (world_of image) bus (events_of image.cpus script), starts-at-0 image, whole)
 
--- at most 968 reads for each event
-pub reads-completed : (old new : ℕ) (bus : Bus) (image : Image) (script : Script) → length (events_of image.cpus script) ≡ script.events → new ≤ old + 968 * script.events →
-    new ≤ old + 968 * (completed bus (job image script)).events
-reads-completed old new bus image script whole h =
-    let P : ℕ → Type 0 = λ count. new ≤ old + 968 * count in
-    subst P (sym (events-completed bus image script whole)) h
+-- the reads for all events
+pub reads-completed : (work : Work) (old new : ℕ) (bus : Bus) (image : Image) (script : Script) → length (events_of image.cpus script) ≡ script.events → AreRead work old new script.events →
+    AreRead work old new (completed bus (job work image script)).events
+reads-completed work old new bus image script whole h =
+    let P : ℕ → Type 0 = λ count. AreRead work old new count in
+    subst P (sym (events-completed work bus image script whole)) h
 
 -- The bus behind some first events.
 
@@ -43,16 +45,16 @@ unfolding led_until
 bus-none bus j = refl
 
 -- some first events from the image's world
-pub led-some : (w : World) (bus : Bus) (image : Image) (script : Script) (count : ℕ) → w ≡ world_of image → plain_run w bus (take count (events_of image.cpus script)) ≡ led_until count bus (job image script)
+pub led-some : (work : Work) (w : World) (bus : Bus) (image : Image) (script : Script) (count : ℕ) → w ≡ world_of image → plain_run w bus (take count (events_of image.cpus script)) ≡ led_until count bus (job work image script)
 unfolding led_until
-led-some w bus image script count e = ap (λ u. plain_run u bus (take count (events_of image.cpus script))) e
+led-some work w bus image script count e = ap (λ u. plain_run u bus (take count (events_of image.cpus script))) e
 
-pub bus-some : (w : World) (bus now : Bus) (image : Image) (script : Script) (count : ℕ) → w ≡ world_of image → now ≡ (plain_run w bus (take count (events_of image.cpus script))).bus →
-    now ≡ (led_until count bus (job image script)).bus
-bus-some w bus now image script count e g = g ∙ ap (λ (l : Led). l.bus) (led-some w bus image script count e)
+pub bus-some : (work : Work) (w : World) (bus now : Bus) (image : Image) (script : Script) (count : ℕ) → w ≡ world_of image → now ≡ (plain_run w bus (take count (events_of image.cpus script))).bus →
+    now ≡ (led_until count bus (job work image script)).bus
+bus-some work w bus now image script count e g = g ∙ ap (λ (l : Led). l.bus) (led-some work w bus image script count e)
 
-pub bus-all : (w : World) (bus now : Bus) (image : Image) (script : Script) → w ≡ world_of image → now ≡ (plain_run w bus (events_of image.cpus script)).bus →
-    now ≡ (led_until (length (events_of image.cpus script)) bus (job image script)).bus
-bus-all w bus now image script e g =
-    bus-some w bus now image script (length (events_of image.cpus script)) e
+pub bus-all : (work : Work) (w : World) (bus now : Bus) (image : Image) (script : Script) → w ≡ world_of image → now ≡ (plain_run w bus (events_of image.cpus script)).bus →
+    now ≡ (led_until (length (events_of image.cpus script)) bus (job work image script)).bus
+bus-all work w bus now image script e g =
+    bus-some work w bus now image script (length (events_of image.cpus script)) e
     (g ∙ ap (λ (es : List Event). (plain_run w bus es).bus) (sym (take-length (events_of image.cpus script))))

@@ -8,7 +8,7 @@ use Rattle.svm_model.specs.Machine.World.{World}
 use Rattle.svm_model.specs.Memory.Bytes.{byte_at}
 use Rattle.svm_model.specs.declared.names.GuestId.{GuestId}
 use Rattle.svm_model.specs.declared.windows.OutsideMemory.{OutsideMemory}
-use Rattle.svm_run.specs.Outcome.{memory_of}
+use Rattle.svm_model.specs.Formats.Trace.{memory_of}
 
 -- the guest of a size that is told
 sized : (guests : List Guest) (n size : ℕ) → slice_get (map (λ (g : Guest). length g.memory) guests) n ≡ Some size → (n < length guests) × (length (memory_of (slice_get guests n)) ≡ size)

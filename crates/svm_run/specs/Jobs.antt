@@ -1,5 +1,5 @@
--- What words over the told files name: a job, which is an image and a script for it, or a status that ends the program
--- before any event. The order of refusals is the order of the cases.
+-- What words over the told files name: a job, which is an image, a script for it and what is asked for, or a status that ends
+-- the program before any event. The order of refusals is the order of the cases.
 use Rattle.std.specs.Prelude.{ℕ, List, true, false, Option, Some, None, Result, Ok, Err}
 use Rattle.byte_shelf.specs.Shelf.{Files, file_of, whole_file}
 use Rattle.byte_shelf.specs.declared.answers.ReadAll.{ReadAll}
@@ -9,19 +9,21 @@ use Rattle.svm_model.specs.Formats.ImageBytes.{image_of, image_limit}
 use Rattle.svm_model.specs.Formats.Script.{Script as ScriptRecord, ScriptFault, script_of, script_limit}
 use Rattle.svm_model.specs.declared.formats.ImageReason.TheVariants.{TooLong as ImageTooLong}
 use Rattle.svm_model.specs.declared.formats.ScriptReason.TheVariants.{TooLong as ScriptTooLong}
-use Rattle.svm_run.specs.Words.{names_of}
+use Rattle.svm_run.specs.Words.{Asked, asked_of}
 use Rattle.svm_run.specs.declared.status.Status.{Status}
 use Rattle.svm_run.specs.declared.status.Status.TheVariants.{Words, Input, OutsideFault, NoMemory}
 use Rattle.svm_run.specs.declared.status.InputFault.TheVariants.{Missing, Image, Script}
 use Rattle.svm_run.specs.declared.status.OutsideFault.TheVariants.{Read}
+use Rattle.svm_run.specs.declared.words.Work.{Work}
 
--- an image, and a script for it
+-- an image, a script for it, and whether its events are told by their dumps alone or by a block each
 pub record Job : Type 0 where
+  pub work : Work
   pub image : ImageRecord
   pub script : ScriptRecord
 
-abbrev pub job : ImageRecord → ScriptRecord → Job
-job image script = record { image = image; script = script }
+abbrev pub job : Work → ImageRecord → ScriptRecord → Job
+job work image script = record { work = work; image = image; script = script }
 
 -- the image that bytes say
 abbrev pub image_said : Result ImageRecord ImageFault → Result ImageRecord Status
@@ -54,17 +56,17 @@ image_in files name = image_from (whole_file image_limit (file_of files name))
 unfoldable pub script_in : ImageRecord → Option Files → List ℕ → Result ScriptRecord Status
 script_in image files name = script_from image (whole_file script_limit (file_of files name))
 
-abbrev pub job_with_script : ImageRecord → Result ScriptRecord Status → Result Job Status
-job_with_script image (Err status) = Err status
-job_with_script image (Ok script) = Ok (job image script)
+abbrev pub job_with_script : Work → ImageRecord → Result ScriptRecord Status → Result Job Status
+job_with_script work image (Err status) = Err status
+job_with_script work image (Ok script) = Ok (job work image script)
 
-abbrev pub job_with_image : Option Files → List ℕ → Result ImageRecord Status → Result Job Status
-job_with_image files name (Err status) = Err status
-job_with_image files name (Ok image) = job_with_script image (script_in image files name)
+abbrev pub job_with_image : Option Files → Asked → Result ImageRecord Status → Result Job Status
+job_with_image files asked (Err status) = Err status
+job_with_image files asked (Ok image) = job_with_script asked.work image (script_in image files asked.script)
 
-abbrev pub job_with_names : Option Files → Option (List ℕ × List ℕ) → Result Job Status
+abbrev pub job_with_names : Option Files → Option Asked → Result Job Status
 job_with_names files None = Err Words
-job_with_names files (Some names) = job_with_image files names.1 (image_in files names.0)
+job_with_names files (Some asked) = job_with_image files asked (image_in files asked.image)
 
 abbrev pub job_of : Option Files → List (List ℕ) → Result Job Status
-job_of files words = job_with_names files (names_of words)
+job_of files words = job_with_names files (asked_of words)

@@ -1,4 +1,5 @@
 pub mod Answers
+pub mod Blocks
 pub mod Jobs
 pub mod Outcome
 pub mod StatusLine

@@ -1,20 +1,22 @@
 -- What the program answers and prints where nothing outside fails and memory is ample, and how far a run is after some
 -- events.
-use Rattle.std.specs.Prelude.{ℕ, ◌==◌, List, [], ◌∷◌, Bool, true, false, if◌then◌else◌, Option, Some, None, Result, Ok, Err, is_some, length, take, drop, slice_get}
+use Rattle.std.specs.Prelude.{ℕ, ◌==◌, List, [], ◌∷◌, Bool, true, false, if◌then◌else◌, Option, Result, Ok, Err, is_some, length, take}
 use Rattle.byte_shelf.specs.Shelf.{Files}
 use Rattle.svm_model.specs.Machine.Bus.{Bus}
 use Rattle.svm_model.specs.Machine.Guest.{Guest}
 use Rattle.svm_model.specs.Formats.Script.{events_of}
-use Rattle.svm_model.specs.Formats.Text.{◌⧺◌, dump_line, report}
+use Rattle.svm_model.specs.Formats.Text.{◌⧺◌, report}
+use Rattle.svm_model.specs.Formats.Trace.{block, shown_line}
 use Rattle.svm_model.specs.Machine.Events.{plain_event}
 use Rattle.svm_model.specs.Machine.Runs.{Led, plain_run}
 use Rattle.svm_model.specs.Machine.World.{World, world_of}
 use Rattle.svm_model.specs.declared.names.Event.{Event}
-use Rattle.svm_model.specs.declared.names.Event.TheVariants.{Dump}
 use Rattle.svm_run.specs.Jobs.{Job, job_of}
 use Rattle.svm_run.specs.StatusLine.{status_line}
 use Rattle.svm_run.specs.declared.status.Status.{Status}
 use Rattle.svm_run.specs.declared.status.Status.TheVariants.{Done, LeftProfile}
+use Rattle.svm_run.specs.declared.words.Work.{Work}
+use Rattle.svm_run.specs.declared.words.Work.TheVariants.{Run, Trace}
 
 -- a status, what is printed before the program ends with it, how many events were run, and the bus behind them
 pub record Outcome : Type 0 where
@@ -32,22 +34,17 @@ abbrev pub has_ended : List Guest → Bool
 has_ended [] = false
 has_ended (guest ∷ guests) = if is_some guest.ended then true else has_ended guests
 
--- What is printed in a run: the line of each dump at its event, and the report behind the last.
+-- What is printed of the events: of each dump its line, or of each event its block; and the report behind the last.
 
-abbrev pub memory_of : Option Guest → List ℕ
-memory_of None = []
-memory_of (Some guest) = guest.memory
-
--- what an event prints in the world that it finds: a dump the bytes of the guest's memory
-unfoldable pub event_text : World → Event → List ℕ
-event_text w (Dump guest address length) =
-    dump_line w.event guest.0 address (take length (drop address (memory_of (slice_get w.guests guest.0))))
-event_text w _ = []
+-- what an event prints, by the world and the bus that it finds
+abbrev pub event_text : Work → World → Bus → Event → List ℕ
+event_text Run w bus event = shown_line w event
+event_text Trace w bus event = block w bus event
 
 -- what the events of a list print, one after another
-unfoldable pub texts_of : World → Bus → List Event → List ℕ
-texts_of w bus [] = []
-texts_of w bus (event ∷ events) = event_text w event ⧺ texts_of (plain_event w bus event).world (plain_event w bus event).bus events
+unfoldable pub texts_of : Work → World → Bus → List Event → List ℕ
+texts_of work w bus [] = []
+texts_of work w bus (event ∷ events) = event_text work w bus event ⧺ texts_of work (plain_event w bus event).world (plain_event w bus event).bus events
 
 -- all events were run, have printed this and led here
 unfoldable pub outcome_after : List ℕ → Led → Outcome
@@ -63,7 +60,7 @@ unfoldable pub completed : Bus → Job → Outcome
 completed bus job =
     let w = world_of job.image in
     let events = events_of job.image.cpus job.script in
-    outcome_after (texts_of w bus events) (plain_run w bus events)
+    outcome_after (texts_of job.work w bus events) (plain_run w bus events)
 
 abbrev pub outcome_by : Bus → Result Job Status → Outcome
 outcome_by bus (Err status) = refused bus status
@@ -79,7 +76,7 @@ led_until count bus job = plain_run (world_of job.image) bus (take count (events
 
 -- what these events print
 unfoldable pub events_text : ℕ → Bus → Job → List ℕ
-events_text count bus job = texts_of (world_of job.image) bus (take count (events_of job.image.cpus job.script))
+events_text count bus job = texts_of job.work (world_of job.image) bus (take count (events_of job.image.cpus job.script))
 
 -- what a run prints until so many of its events are done: behind the last of all the report too
 unfoldable pub text_until : ℕ → Bus → Job → List ℕ

@@ -3,7 +3,7 @@ ghost use Rattle.std.specs.Prelude.{◌≡◌, ◌+◌, ◌≤◌, [], true, dro
 ghost use Rattle.std.specs.Option.{MatchOption};
 ghost use Rattle.svm_model.specs.Machine.Shapes.{world_shape, IsNamed, IsShown};
 ghost use Rattle.plain_machine.specs.Reads.{is_run};
-ghost use Rattle.svm_run.specs.Outcome.{event_text, memory_of};
+ghost use Rattle.svm_model.specs.Formats.Trace.{memory_of, shown_line};
 
 use host_memory::Steps;
 use plain_machine::PlainMachine;
@@ -42,7 +42,7 @@ fn bytes_of<L: Ledger>(
 }
 
 /// The line of a dump of a machine that has not done that event yet.
-#[tactic(auto, unfolding(crate::specs::Outcome::event_text))]
+#[tactic(auto, unfolding(svm_model::specs::Formats::Trace::shown_line))]
 fn line_of_dump<L: Ledger>(
     alloc: Global,
     machine: &PlainMachine,
@@ -52,7 +52,7 @@ fn line_of_dump<L: Ledger>(
     steps: &mut Steps<L>,
 ) -> Result<Vec<u8>, NoMemory>
     requires { IsShown (world_shape machine.now.world) guest address length }
-    ensures text { IfOk result (λ text. text.items ≡ event_text machine.now.world (Event.Dump guest address length)) }
+    ensures text { IfOk result (λ text. text.items ≡ shown_line machine.now.world (Event.Dump guest address length)) }
     ensures cost { steps.new ≤ steps.old + 256 }
     ensures later { steps.old ≤ steps.new }
 {
@@ -62,7 +62,7 @@ fn line_of_dump<L: Ledger>(
 
 /// What an event prints, which the machine has not done yet, where it prints: a dump its line. At most 256 reads are counted,
 /// and none where a vcpu may take a turn.
-#[tactic(auto, unfolding(crate::specs::Outcome::event_text))]
+#[tactic(auto, unfolding(svm_model::specs::Formats::Trace::shown_line))]
 pub fn text_of<L: Ledger>(
     alloc: Global,
     machine: &PlainMachine,
@@ -70,7 +70,7 @@ pub fn text_of<L: Ledger>(
     steps: &mut Steps<L>,
 ) -> Result<Option<Vec<u8>>, NoMemory>
     requires { IsNamed (world_shape machine.now.world) event }
-    ensures text { IfOk result (λ shown. MatchOption shown ([] ≡ event_text machine.now.world event) (λ text. text.items ≡ event_text machine.now.world event)) }
+    ensures text { IfOk result (λ shown. MatchOption shown ([] ≡ shown_line machine.now.world event) (λ text. text.items ≡ shown_line machine.now.world event)) }
     ensures cost { steps.new ≤ steps.old + 256 }
     ensures still { is_run event ≡ true → steps.new ≡ steps.old }
     ensures later { steps.old ≤ steps.new }

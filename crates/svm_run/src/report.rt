@@ -34,7 +34,7 @@ fn vcpu_count(image: &Image, guest: GuestId) -> u8
 }
 
 /// Appends a text to another.
-fn push_text(text: &mut Vec<u8>, more: &[u8]) -> Result<(), NoMemory>
+pub fn push_text(text: &mut Vec<u8>, more: &[u8]) -> Result<(), NoMemory>
     ensures { OnOk result (text.new.items ≡ text.old.items ++ more.now) }
 {
     if text.extend_from_slice(more).is_err() {
@@ -44,7 +44,7 @@ fn push_text(text: &mut Vec<u8>, more: &[u8]) -> Result<(), NoMemory>
 }
 
 /// Appends the line of a vcpu.
-fn push_vcpu(
+pub fn push_vcpu(
     alloc: Global,
     text: &mut Vec<u8>,
     machine: &PlainMachine,

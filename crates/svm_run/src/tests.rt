@@ -108,6 +108,8 @@ pub fn image_of(alloc: Global, job: Job<'_>) -> Result<Vec<u8>, AllocError>
 
 const RUN: [&str; 3] = ["run", "one.img", "one.script"];
 
+const TRACE: [&str; 3] = ["trace", "one.img", "one.script"];
+
 pub const HALT: Job<'static> = Job {
     words: &RUN,
     cpus: 1,
@@ -191,10 +193,39 @@ pub fn done<L: Ledger, M: Ledger>(
 const RIGHT: &str =
     "events 2\nguest 0 live\nvcpu 0.0 l1 halted rip=5001 rfl=2 cr0=80010033 cr3=1000 cr4=a0 efer=d00\n";
 
+/// The same with a block for each event: the fetch sets the accessed bits of four entries.
+const TRACED: &str = "event 0 place 0 0.0\nevent 1 run 0 0.0\nvcpu 0.0 l1 halted rip=5001 rfl=2 cr0=80010033 cr3=1000 cr4=a0 efer=d00\nmem 0 at=1000 bytes=27\nmem 0 at=2000 bytes=27\nmem 0 at=3000 bytes=27\nmem 0 at=4028 bytes=27\nevents 2\nguest 0 live\nvcpu 0.0 l1 halted rip=5001 rfl=2 cr0=80010033 cr3=1000 cr4=a0 efer=d00\n";
+
 #[test]
 fn jobs_end_as_the_formats_say(rt: HostRuntime) -> Result<(), Fail> {
     let table = [
         (HALT, Status::Done, RIGHT),
+        (
+            Job {
+                words: &TRACE,
+                ..HALT
+            },
+            Status::Done,
+            TRACED,
+        ),
+        (
+            Job {
+                words: &TRACE,
+                sink_fails: Some(0),
+                ..HALT
+            },
+            Status::OutsideFault(OutsideFault::Write),
+            "",
+        ),
+        (
+            Job {
+                words: &TRACE,
+                sink_fails: Some(1),
+                ..HALT
+            },
+            Status::OutsideFault(OutsideFault::Write),
+            "event 0 place 0 0.0\n",
+        ),
         (
             Job {
                 words: &["walk", "a", "b"],

@@ -9,21 +9,24 @@ ghost use Rattle.svm_run.specs.Jobs.{job, job_of, Job};
 ghost use Rattle.svm_run.specs.Outcome.{outcome_of, outcome_after, completed};
 ghost use Rattle.svm_run.specs.StatusLine.{status_line};
 ghost use Rattle.svm_run.specs.Statuses.{meaning_of};
-ghost use Rattle.svm_run.specs.Stops.{status_of};
-ghost use Rattle.svm_run.specs.Words.{names_of};
+ghost use Rattle.svm_run.specs.Stops.{status_of, AreRead, AreReadFor};
+ghost use Rattle.svm_run.specs.Words.{asked_of};
 ghost use Rattle.svm_model.specs.Machine.Bus.{Bus as BusRecord};
+ghost use Rattle.svm_model.specs.Machine.World.{world_of};
 
 use crate::inputs::{open_image, open_script};
 use crate::report::{has_ended, report};
-use crate::running::{RunFault, run_events};
+use crate::running::{Dumps, RunFault, Teller, run_events};
 use crate::status::{OutsideFault, Status};
 use crate::status_line::line_of;
-use crate::words::names;
+use crate::tracing::Blocks;
+use crate::words::{Work, read_words};
 use byte_shelf::{Shelf, Sink, SinkRefusal, write_all};
 use host_memory::Steps;
 use image_format::Image;
 use plain_machine::PlainMachine;
 use port_bus::{Bus, BusState, Ports, RunEnd};
+use report_text::Tracer;
 use script_format::Script;
 use std::alloc::Global;
 use std::sync::ledger::Ledger;
@@ -81,18 +84,52 @@ fn status_of(fault: RunFault) -> Status
     match fault {
         RunFault::NoMemory
         | RunFault::Bus(RunEnd::NoMemory)
-        | RunFault::Sink(SinkRefusal::NoMemory) => Status::NoMemory,
+        | RunFault::Unprinted(SinkRefusal::NoMemory) => Status::NoMemory,
         RunFault::Bus(RunEnd::Device { device }) => {
             Status::OutsideFault(OutsideFault::Device { device })
         }
-        RunFault::Sink(SinkRefusal::Failed) => Status::OutsideFault(OutsideFault::Write),
+        RunFault::Unprinted(SinkRefusal::Failed) => Status::OutsideFault(OutsideFault::Write),
     }
 }
 
-/// Runs a script on the machine of an image, and prints the report behind what the events print. Where the run ends early
-/// only the line of the status comes, of which a fault of writing has none.
+/// Runs a script on the machine of an image, which is opened, and prints the report behind what is told of the events. Where
+/// the run ends early only the line of the status comes, of which a fault of writing has none.
+#[tactic(auto, using(crate::proofs::Stops::stops))]
+fn run_told<T: Teller, B: Ports, K: Sink, L: Ledger>(
+    alloc: Global,
+    teller: &mut T,
+    image: &Image,
+    script: &Script,
+    bus: &mut B,
+    sink: &mut K,
+    steps: &mut Steps<L>,
+) -> Status
+    requires ready { T.ready teller.old (world_of image.now) }
+    requires lawful { IsLawfulImage image.now }
+    requires script { IsLawful (image_shape image.now) script.now }
+    requires count { length (events_of image.now.cpus script.now) ≡ script.now.events }
+    ensures exact { IsDetermined result → result ≡ (completed (B.bus bus.old) (job T.work image.now script.now)).status }
+    ensures run { IsBeforeRun result → ⊥ }
+    ensures ends { EndsRun (meaning_of result) (status_line result) (job T.work image.now script.now) (B.bus bus.old) (B.bus bus.new) (K.written sink.old) (K.written sink.new)
+        (Rose (K.faults sink.old) (K.faults sink.new) ⊎ Rose (K.refusals sink.old) (K.refusals sink.new)) }
+    ensures cause { (s t : ℕ) → HasCause (meaning_of result).blame s t (K.faults sink.old) (K.faults sink.new) (B.faults bus.old) (B.faults bus.new) }
+    ensures steps { AreRead T.work steps.old steps.new (completed (B.bus bus.old) (job T.work image.now script.now)).events }
+    ensures most_steps { AreRead T.work steps.old steps.new 1048576 }
+{
+    let Ok(mut machine) = PlainMachine::open(alloc, image) else {
+        return refuse(sink, Status::NoMemory);
+    };
+    match run_events(teller, &mut machine, script, image.cpus, bus, sink, steps) {
+        Ok(()) => finish(alloc, &machine, image, bus, sink),
+        Err(fault) => refuse(sink, status_of(fault)),
+    }
+}
+
+/// Runs a script on the machine of an image, and tells of its events as is asked for.
+#[tactic(auto, using(crate::proofs::Stops::stops))]
 fn run_job<B: Ports, K: Sink, L: Ledger>(
     alloc: Global,
+    work: Work,
     image: &Image,
     script: &Script,
     bus: &mut B,
@@ -102,30 +139,34 @@ fn run_job<B: Ports, K: Sink, L: Ledger>(
     requires lawful { IsLawfulImage image.now }
     requires script { IsLawful (image_shape image.now) script.now }
     requires count { length (events_of image.now.cpus script.now) ≡ script.now.events }
-    ensures exact { IsDetermined result → result ≡ (completed (B.bus bus.old) (job image.now script.now)).status }
+    ensures exact { IsDetermined result → result ≡ (completed (B.bus bus.old) (job work image.now script.now)).status }
     ensures run { IsBeforeRun result → ⊥ }
-    ensures ends { EndsRun (meaning_of result) (status_line result) (job image.now script.now) (B.bus bus.old) (B.bus bus.new) (K.written sink.old) (K.written sink.new)
+    ensures ends { EndsRun (meaning_of result) (status_line result) (job work image.now script.now) (B.bus bus.old) (B.bus bus.new) (K.written sink.old) (K.written sink.new)
         (Rose (K.faults sink.old) (K.faults sink.new) ⊎ Rose (K.refusals sink.old) (K.refusals sink.new)) }
     ensures cause { (s t : ℕ) → HasCause (meaning_of result).blame s t (K.faults sink.old) (K.faults sink.new) (B.faults bus.old) (B.faults bus.new) }
-    ensures steps { steps.new ≤ steps.old + 968 * (completed (B.bus bus.old) (job image.now script.now)).events }
-    ensures most_steps { steps.new ≤ steps.old + 1015021568 }
+    ensures steps { AreRead work steps.old steps.new (completed (B.bus bus.old) (job work image.now script.now)).events }
+    ensures most_steps { AreRead work steps.old steps.new 1048576 }
 {
-    let Ok(mut machine) = PlainMachine::open(alloc, image) else {
-        return refuse(sink, Status::NoMemory);
-    };
-    match run_events(alloc, &mut machine, script, image.cpus, bus, sink, steps) {
-        Ok(()) => finish(alloc, &machine, image, bus, sink),
-        Err(fault) => refuse(sink, status_of(fault)),
+    match work {
+        Work::Run => run_told(alloc, &mut Dumps { alloc }, image, script, bus, sink, steps),
+        Work::Trace => {
+            let Ok(tracer) = Tracer::new(alloc, image) else {
+                return refuse(sink, Status::NoMemory);
+            };
+            let mut blocks = Blocks { alloc, tracer };
+            run_told(alloc, &mut blocks, image, script, bus, sink, steps)
+        }
     }
 }
 
 /// Does the job that the words name: `run IMAGE SCRIPT` reads an image and a script from the shelf, runs the script's
 /// events on the machine of the image beside the bus of port devices, prints the line of each dump to the sink at its event,
-/// and the report behind the last.
+/// and the report behind the last; `trace IMAGE SCRIPT` does the same, but prints a block of lines at each event.
 ///
 /// Where the shelf tells its files, the status is that of `outcome_of`, unless something outside failed or memory ran out,
 /// and what the bus and the sink are left with is what the status means (`Ends`). A refusal is told by its line, and the
 /// status stands whatever the sink says to that.
+#[tactic(auto, using(crate::proofs::Stops::stops))]
 pub fn svm_run<H: Shelf, K: Sink, L: Ledger, M: Ledger>(
     alloc: Global,
     words: &[&str],
@@ -136,8 +177,8 @@ pub fn svm_run<H: Shelf, K: Sink, L: Ledger, M: Ledger>(
     entries: &mut Steps<M>,
 ) -> Status
     // The words, and the bytes where they are told, determine the status, unless something outside is to blame.
-    ensures words { names_of (map (λ w. w.now) words.now) ≡ None → result ≡ Status.Words }
-    ensures only_words { result ≡ Status.Words → names_of (map (λ w. w.now) words.now) ≡ None }
+    ensures words { asked_of (map (λ w. w.now) words.now) ≡ None → result ≡ Status.Words }
+    ensures only_words { result ≡ Status.Words → asked_of (map (λ w. w.now) words.now) ≡ None }
     ensures exact { IfSome (H.files shelf.old) (λ _. IsDetermined result →
         result ≡ (outcome_of (⟦<Bus as BusState>⟧.bus bus.old) (H.files shelf.old) (map (λ w. w.now) words.now)).status) }
     // What is blamed counted a fault in this call.
@@ -154,24 +195,24 @@ pub fn svm_run<H: Shelf, K: Sink, L: Ledger, M: Ledger>(
     ensures line { IsBeforeRun result → ReceivesLine (K.written sink.old) (K.written sink.new) (status_line result)
         (Rose (K.faults sink.old) (K.faults sink.new) ⊎ Rose (K.refusals sink.old) (K.refusals sink.new)) }
 
-    // At most 968 reads are counted for each event, of which there are at most 1,048,576; the shelf is called for as many
-    // bytes as its two files may have at most, and for each file twice more.
-    ensures steps { IfSome (H.files shelf.old) (λ _.
-        steps.new ≤ steps.old + 968 * (outcome_of (⟦<Bus as BusState>⟧.bus bus.old) (H.files shelf.old) (map (λ w. w.now) words.now)).events) }
-    ensures most_steps { steps.new ≤ steps.old + 1015021568 }
+    // At most 6368 reads are counted for each event of a run, of which there are at most 1,048,576; a trace has no bound. The
+    // shelf is called for as many bytes as its two files may have at most, and for each file twice more.
+    ensures steps { IfSome (H.files shelf.old) (λ _. AreReadFor (asked_of (map (λ w. w.now) words.now))
+        steps.old steps.new (outcome_of (⟦<Bus as BusState>⟧.bus bus.old) (H.files shelf.old) (map (λ w. w.now) words.now)).events) }
+    ensures most_steps { AreReadFor (asked_of (map (λ w. w.now) words.now)) steps.old steps.new 1048576 }
     ensures calls { H.calls shelf.new ≤ H.calls shelf.old + 68157444 }
     ensures entries { entries.new ≡ entries.old }
 {
-    let Some((image, script)) = names(words) else {
+    let Some(asked) = read_words(words) else {
         return refuse(sink, Status::Words);
     };
-    let image = match open_image(alloc, shelf, image) {
+    let image = match open_image(alloc, shelf, asked.image) {
         Ok(image) => image,
         Err(status) => return refuse(sink, status),
     };
-    let script = match open_script(alloc, shelf, script, &image) {
+    let script = match open_script(alloc, shelf, asked.script, &image) {
         Ok(script) => script,
         Err(status) => return refuse(sink, status),
     };
-    run_job(alloc, &image, &script, bus, sink, steps)
+    run_job(alloc, asked.work, &image, &script, bus, sink, steps)
 }

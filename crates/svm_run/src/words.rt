@@ -1,7 +1,34 @@
 // Reads the program's words.
 ghost use Rattle.std.specs.Prelude.{◌≡◌, map};
 ghost use Rattle.std.specs.Option.{option_map};
-ghost use Rattle.svm_run.specs.Words.{is_name, names_of};
+ghost use Rattle.svm_run.specs.Words.{asked_of, is_name, work_of as work_named};
+
+/// What is asked for of an image and a script: the report of the run, with the line of each dump before it, or a trace, in
+/// which each event has a block.
+#[derive(Clone, Copy)]
+pub enum Work {
+    Run,
+    Trace,
+}
+
+/// What the words ask for, and the names of the image and the script.
+#[derive(Clone, Copy)]
+pub struct Asked<'a> {
+    pub work: Work,
+    pub image: &'a str,
+    pub script: &'a str,
+}
+
+/// The work that a word names.
+fn work_of(word: &str) -> Option<Work>
+    ensures { result ≡ work_named word.now }
+{
+    match word {
+        "run" => Some(Work::Run),
+        "trace" => Some(Work::Trace),
+        _ => None,
+    }
+}
 
 /// Whether a word can name a file: it is not empty and does not begin with a dash.
 fn is_a_name(word: &str) -> bool
@@ -13,14 +40,21 @@ fn is_a_name(word: &str) -> bool
     }
 }
 
-/// The names of the image and the script, where the words are `run IMAGE SCRIPT`.
-pub fn names<'a>(words: &[&'a str]) -> Option<(&'a str, &'a str)>
-    ensures { option_map (λ n. (n.0.now, n.1.now)) result ≡ names_of (map (λ w. w.now) words.now) }
+/// What the words ask for, where they are `run IMAGE SCRIPT` or `trace IMAGE SCRIPT`.
+pub fn read_words<'a>(words: &[&'a str]) -> Option<Asked<'a>>
+    ensures { option_map (λ a. record { work = a.work; image = a.image.now; script = a.script.now }) result ≡ asked_of (map (λ w. w.now) words.now) }
 {
-    match words {
-        [job, image, script] if *job == "run" && is_a_name(image) && is_a_name(script) => {
-            Some((*image, *script))
-        }
-        _ => None,
+    let [word, image, script] = words else {
+        return None;
+    };
+    let work = work_of(word)?;
+    if is_a_name(image) && is_a_name(script) {
+        Some(Asked {
+            work,
+            image,
+            script,
+        })
+    } else {
+        None
     }
 }

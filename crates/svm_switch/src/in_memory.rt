@@ -59,7 +59,7 @@ fn put_pat(memory: &mut HostMemory, window: GuestWindow, vmcb: u64, nested: bool
     requires window { IsWithin window memory.old.bytes }
     requires page { vmcb + 4096 ≤ window.size }
     ensures put { guest_of window memory.new.bytes ≡ with_fields vmcb (values_of fields.now (pat_fields nested)) (guest_of window memory.old.bytes) }
-    ensures others { SameOutside window memory.old.bytes memory.new.bytes }
+    ensures others { SameOutside window memory.old memory.new }
 {
     if nested {
         put_fields(memory, window, vmcb, fields, &[GPat]);
@@ -72,7 +72,7 @@ fn put_left(memory: &mut HostMemory, window: GuestWindow, vmcb: u64, nested: boo
     requires window { IsWithin window memory.old.bytes }
     requires page { vmcb + 4096 ≤ window.size }
     ensures put { guest_of window memory.new.bytes ≡ with_fields vmcb (values_of fields.now (left_fields nested)) (guest_of window memory.old.bytes) }
-    ensures others { SameOutside window memory.old.bytes memory.new.bytes }
+    ensures others { SameOutside window memory.old memory.new }
 {
     put_fields(memory, window, vmcb, fields, &STATE_FIELDS);
     put_pat(memory, window, vmcb, nested, fields);
@@ -96,7 +96,7 @@ pub fn leave_in_memory<L: Ledger>(
     ensures registers { registers.new ≡ brought_back leaving.now.nested inside.now.kept.registers registers.old }
     ensures stored { guest_of window memory.new.bytes ≡ with_fields inside.now.kept.vmcb
         (stored_in_all registers.old inside.now leaving.now (fields_in (guest_of window memory.old.bytes) inside.now.kept.vmcb)) (guest_of window memory.old.bytes) }
-    ensures others { SameOutside window memory.old.bytes memory.new.bytes }
+    ensures others { SameOutside window memory.old memory.new }
     ensures steps { steps.new ≡ steps.old + 34 }
 {
     let vmcb = inside.kept.vmcb;
@@ -122,7 +122,7 @@ pub fn refuse_in_memory(
     requires found { fields.old ≡ fields_in (guest_of window memory.old.bytes) vmcb }
     ensures registers { registers.new ≡ host_registers (record registers.old { rip = next_rip }) }
     ensures stored { guest_of window memory.new.bytes ≡ with_fields vmcb (stored_exit invalid_exit None fields.old) (guest_of window memory.old.bytes) }
-    ensures others { SameOutside window memory.old.bytes memory.new.bytes }
+    ensures others { SameOutside window memory.old memory.new }
 {
     let exit = Exit {
         code: u64::MAX,

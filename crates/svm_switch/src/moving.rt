@@ -86,7 +86,7 @@ pub fn vmsave(
     ensures save { MatchOption (moved_at (guest_of window memory.old.bytes) address)
         ((result ≡ Ok tt) × (guest_of window memory.new.bytes ≡ with_fields address (vmsaved registers.now) (guest_of window memory.old.bytes)))
         (λ outside. (result ≡ Err outside) × (memory.new ≡ memory.old)) }
-    ensures others { SameOutside window memory.old.bytes memory.new.bytes }
+    ensures others { SameOutside window memory.old memory.new }
 {
     match first_outside(window, address) {
         Some(outside) => Err(outside),

@@ -18,7 +18,7 @@ fn save(memory: &mut HostMemory, window: GuestWindow, address: u64, field: Field
     requires page { address + 4096 ≤ window.size }
     requires place { (place_of field).offset + (place_of field).width ≤ 4096 }
     requires fits { value < 256 ^ (place_of field).width }
-    ensures saved { AreSaved window address (stored field value ∷ []) memory.old.bytes memory.new.bytes }
+    ensures saved { AreSaved window address (stored field value ∷ []) memory.old memory.new }
     ensures window { IsWithin window memory.new.bytes }
 {
     let _ = put(memory, window, address, field, value);
@@ -29,7 +29,7 @@ fn save_word(memory: &mut HostMemory, window: GuestWindow, address: u64, field: 
     requires window { IsWithin window memory.old.bytes }
     requires page { address + 4096 ≤ window.size }
     requires field { IsWide field 8 }
-    ensures saved { AreSaved window address (stored field value ∷ []) memory.old.bytes memory.new.bytes }
+    ensures saved { AreSaved window address (stored field value ∷ []) memory.old memory.new }
     ensures window { IsWithin window memory.new.bytes }
 {
     save(memory, window, address, field, value);
@@ -59,7 +59,7 @@ fn save_segment(
     requires attributes { IsWide parts.attributes 2 }
     requires limit { IsWide parts.limit 4 }
     requires base { IsWide parts.base 8 }
-    ensures saved { AreSaved window address (stored_segment parts.selector parts.attributes parts.limit parts.base segment.now) memory.old.bytes memory.new.bytes }
+    ensures saved { AreSaved window address (stored_segment parts.selector parts.attributes parts.limit parts.base segment.now) memory.old memory.new }
     ensures window { IsWithin window memory.new.bytes }
 {
     save(memory, window, address, parts.selector, segment.selector as u64);
@@ -73,7 +73,7 @@ fn save_segment(
 fn save_syscall(registers: &Registers, memory: &mut HostMemory, window: GuestWindow, address: u64)
     requires window { IsWithin window memory.old.bytes }
     requires page { address + 4096 ≤ window.size }
-    ensures saved { AreSaved window address (saved_syscall registers.now) memory.old.bytes memory.new.bytes }
+    ensures saved { AreSaved window address (saved_syscall registers.now) memory.old memory.new }
     ensures window { IsWithin window memory.new.bytes }
 {
     save_word(memory, window, address, KernelGsBase, registers.kernel_gs);
@@ -88,7 +88,7 @@ fn save_syscall(registers: &Registers, memory: &mut HostMemory, window: GuestWin
 fn save_sysenter(registers: &Registers, memory: &mut HostMemory, window: GuestWindow, address: u64)
     requires window { IsWithin window memory.old.bytes }
     requires page { address + 4096 ≤ window.size }
-    ensures saved { AreSaved window address (saved_sysenter registers.now) memory.old.bytes memory.new.bytes }
+    ensures saved { AreSaved window address (saved_sysenter registers.now) memory.old memory.new }
     ensures window { IsWithin window memory.new.bytes }
 {
     save_word(memory, window, address, SysenterCs, registers.sysenter_cs);
@@ -102,7 +102,7 @@ fn save_sysenter(registers: &Registers, memory: &mut HostMemory, window: GuestWi
 fn save_segments(registers: &Registers, memory: &mut HostMemory, window: GuestWindow, address: u64)
     requires window { IsWithin window memory.old.bytes }
     requires page { address + 4096 ≤ window.size }
-    ensures saved { AreSaved window address (saved_segments registers.now) memory.old.bytes memory.new.bytes }
+    ensures saved { AreSaved window address (saved_segments registers.now) memory.old memory.new }
     ensures window { IsWithin window memory.new.bytes }
 {
     let fs = Parts { selector: FsSelector, attributes: FsAttributes, limit: FsLimit, base: FsBase };
@@ -125,7 +125,7 @@ pub(crate) fn save_all(
 )
     requires window { IsWithin window memory.old.bytes }
     requires page { address + 4096 ≤ window.size }
-    ensures { AreSaved window address (vmsaved registers.now) memory.old.bytes memory.new.bytes }
+    ensures { AreSaved window address (vmsaved registers.now) memory.old memory.new }
 {
     save_syscall(registers, memory, window, address);
     save_sysenter(registers, memory, window, address);

@@ -2,7 +2,7 @@
 use Rattle.std.specs.Prelude.{◌≡◌, ◌≤◌, ℕ, List, Bool, Option, Some, None, is_some}
 use Rattle.svm_model.specs.Machine.Apic.{Apic}
 use Rattle.svm_model.specs.Machine.Bus.{Bus}
-use Rattle.svm_model.specs.Memory.Bytes.{SameOutside, guest_of}
+use Rattle.svm_model.specs.Memory.Bytes.{Host, SameOutside, guest_of}
 use Rattle.svm_model.specs.Turn.Course.{Board, Course, Told}
 use Rattle.svm_model.specs.Turn.Play.{play}
 use Rattle.svm_model.specs.declared.apics.Ipi.{Ipi}
@@ -51,11 +51,11 @@ abbrev pub CallsFrom : Option RunEnd → ℕ → List (Option ℕ) → Option Ru
 CallsFrom None calls faults last_refused last_calls last_faults = Calls calls faults last_refused last_calls last_faults
 CallsFrom (Some end) calls faults last_refused last_calls last_faults = Refused end calls faults last_refused last_calls last_faults
 
-pub record Plays {S : Type 0} (stands : S → List Told → Type 0) (copies : Bool) (rule : List Told → Told → Bool) (space : Space) (window : GuestWindow) (old : S) (bytes : List ℕ) (board : Board) (frames : List ℕ) (course : Course) (last : S) (new : List ℕ) (last_board : Board) (refused : Option RunEnd) (vcpu : Vcpu) (stepped : Stepped) : Type 0 where
-  pub others : SameOutside window bytes new
+pub record Plays {S : Type 0} (stands : S → List Told → Type 0) (copies : Bool) (rule : List Told → Told → Bool) (space : Space) (window : GuestWindow) (old : S) (host : Host) (board : Board) (frames : List ℕ) (course : Course) (last : S) (new : Host) (last_board : Board) (refused : Option RunEnd) (vcpu : Vcpu) (stepped : Stepped) : Type 0 where
+  pub others : SameOutside window host new
   pub ensues : (history : List Told) → stands old history →
-      Ensues stands copies rule (play (record { space = space; refused = refused_at refused last_board.calls }) board (guest_of window bytes) frames course)
-      history last (guest_of window new) last_board vcpu stepped
+      Ensues stands copies rule (play (record { space = space; refused = refused_at refused last_board.calls }) board (guest_of window host.bytes) frames course)
+      history last (guest_of window new.bytes) last_board vcpu stepped
 
 -- the references are the same
 pub record SameNames {A B C D E F : Type 0} (a0 a1 : A) (b0 b1 : B) (c0 c1 : C) (d0 d1 : D) (e0 e1 : E) (f0 f1 : F) : Type 0 where

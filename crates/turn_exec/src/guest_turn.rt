@@ -4,7 +4,6 @@ ghost use Rattle.svm_model.specs.Memory.Bytes.{IsWithin, SameOutside, guest_of};
 ghost use Rattle.svm_model.specs.Turn.Course.{Course};
 ghost use Rattle.svm_model.specs.Turn.Play.{frames_after, heard, is_refused, numbered};
 ghost use Rattle.svm_model.specs.declared.names.RunEnd.{RunEnd as RunEndRecord};
-ghost use Rattle.svm_model.specs.declared.page_tables.Outer.TheVariants.{Direct};
 ghost use Rattle.svm_model.specs.declared.turns.Translated.{Translated as TranslatedRecord};
 ghost use Rattle.turn_exec.specs.Begun.{nothing};
 ghost use Rattle.turn_exec.specs.Follows.{AreInside, IsInside};
@@ -66,7 +65,6 @@ pub struct GuestTurn<'t, 'm, 'b, 'a, 's, 'o, T: Translator, B: Ports, A: Apics, 
     pub ghost pages: { window.size % 4096 ≡ 0 },
     pub ghost some: { 4096 ≤ window.size },
     pub ghost inside: { AreInside window.size frames.items },
-    pub ghost direct: { space.outer ≡ Direct },
     /// Where no notice is refused, a refusal is that of a write to a port.
     pub ghost out: { T.refuses ≡ false → is_some outward.now.refused ≡ is_some outward.now.denied },
     /// A call that is granted is one that may cost reads.
@@ -139,8 +137,8 @@ impl<'t, 'm, 'b, 'a, 's, 'o, T: Translator, B: Ports, A: Apics, L: Ledger> Reach
         SameNames m.translator.ghost_name last.translator.ghost_name m.memory.ghost_name last.memory.ghost_name m.bus.ghost_name last.bus.ghost_name m.apics.ghost_name last.apics.ghost_name m.steps.ghost_name last.steps.ghost_name m.outward.ghost_name last.outward.ghost_name
         × (((last.steps.now + T.cost * m.spent ≤ m.steps.now + T.cost * last.spent) × (m.steps.now ≤ last.steps.now))
         × (CallsFrom m.outward.now.refused m.outward.now.calls (B.faults m.bus.now) last.outward.now.refused last.outward.now.calls (B.faults last.bus.now)
-        × Plays T.stands T.copies T.rule m.space m.window m.translator.now m.memory.now.bytes (board_with (B.bus m.bus.now) (A.apic m.apics.now) m.outward.now.sent m.outward.now.calls m.outward.now.refused m.outward.now.denied) m.frames.items course
-        last.translator.now last.memory.now.bytes (board_with (B.bus last.bus.now) (A.apic last.apics.now) last.outward.now.sent last.outward.now.calls last.outward.now.refused last.outward.now.denied) last.outward.now.refused vcpu stepped)) };
+        × Plays T.stands T.copies T.rule m.space m.window m.translator.now m.memory.now (board_with (B.bus m.bus.now) (A.apic m.apics.now) m.outward.now.sent m.outward.now.calls m.outward.now.refused m.outward.now.denied) m.frames.items course
+        last.translator.now last.memory.now (board_with (B.bus last.bus.now) (A.apic last.apics.now) last.outward.now.sent last.outward.now.calls last.outward.now.refused last.outward.now.denied) last.outward.now.refused vcpu stepped)) };
 
     ghost spent = { λ m. m.spent };
 

@@ -30,7 +30,7 @@ mod works;
 
 pub use accesses::{access, part, write_access};
 pub use apics::Apics;
-pub use control::{Control, asid, takes_interrupts};
+pub use control::{Control, asid, asks, takes_interrupts};
 pub use faults::{deliver_event, fault, stopped};
 pub use fetch::instruction;
 pub use guest_turn::{GuestTurn, Outward};

@@ -1,14 +1,15 @@
 // Translates parts of pages, and reads and writes in their frames.
 ghost use Rattle.std.specs.Prelude.{◌≡◌, ℕ, ◌+◌, ◌*◌, ◌/◌, ◌%◌, ◌^◌, ◌<◌, ◌≤◌, List, length, take, drop, true, IfOk, OnErr};
 ghost use Rattle.svm_model.specs.Memory.Bytes.{IsWithin, SameOutside, guest_of, put_at};
+ghost use Rattle.svm_model.specs.Memory.PhysicalAnswers.{IsPhysical};
 ghost use Rattle.svm_model.specs.Turn.Course.{Told, told_of};
 ghost use Rattle.svm_model.specs.Turn.Play.{access_of, apic_frame, located, missed_at, place_in, translated};
-ghost use Rattle.turn_exec.specs.Follows.{Finds, IsInside, IsPhysical, Needs};
+ghost use Rattle.turn_exec.specs.Follows.{Finds, IsInside, Needs};
 
 use crate::translator::Translator;
 use host_memory::{GuestWindow, HostMemory, Steps};
 use std::sync::ledger::Ledger;
-use svm_model::{Access, Frame, LinearPage, Nested, NoMemory, Outer, Part, Space, Translated};
+use svm_model::{Access, Frame, LinearPage, Nested, NoMemory, Part, Space, Translated};
 
 // The page of the local APIC, FEE00000h.
 const APIC_FRAME: u64 = 0xfee00;
@@ -90,13 +91,12 @@ pub fn translate_part<T: Translator, L: Ledger>(
 ) -> Result<Translated, NoMemory>
     requires window { IsWithin window memory.old.bytes }
     requires pages { window.size % 4096 ≡ 0 }
-    requires direct { space.now.outer ≡ Outer.Direct }
     ensures finds { (history : List Told) → T.stands translator.old history →
         Needs T.copies (T.rule history (told_of space.now (guest_of window memory.old.bytes) (access_of part))) →
         Finds T.stands space.now (guest_of window memory.old.bytes) part history result translator.new (guest_of window memory.new.bytes) }
     ensures inside { IfOk result (λ found. IsInside window.size found) }
     ensures refused { OnErr result (T.refuses ≡ true) }
-    ensures others { SameOutside window memory.old.bytes memory.new.bytes }
+    ensures others { SameOutside window memory.old memory.new }
     ensures steps { steps.new ≤ steps.old + T.cost }
     ensures later { steps.old ≤ steps.new }
 {
@@ -150,7 +150,7 @@ pub fn write_part(
     requires few { length bytes.now ≤ 8 }
     requires page { address % 4096 + length bytes.now ≤ 4096 }
     ensures written { guest_of window memory.new.bytes ≡ put_at (guest_of window memory.old.bytes) (place_in frame address) bytes.now }
-    ensures others { SameOutside window memory.old.bytes memory.new.bytes }
+    ensures others { SameOutside window memory.old memory.new }
 {
     let mut piece = [0; 16];
     piece[..bytes.len()].copy_from_slice(bytes);

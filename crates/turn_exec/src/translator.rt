@@ -1,12 +1,13 @@
 // What translates the accesses of a turn.
 ghost use Rattle.std.specs.Prelude.{◌≡◌, ℕ, ◌+◌, ◌%◌, ◌≤◌, Bool, true, List, ◌∷◌, IfOk, OnErr};
 ghost use Rattle.svm_model.specs.Memory.Bytes.{IsWithin, SameOutside, guest_of};
+ghost use Rattle.svm_model.specs.Memory.PhysicalAnswers.{IsPhysical};
 ghost use Rattle.svm_model.specs.Turn.Course.{Flushed, Told, told_of};
-ghost use Rattle.turn_exec.specs.Follows.{IsPhysical, Needs, Walks};
+ghost use Rattle.turn_exec.specs.Follows.{Needs, Walks};
 
 use host_memory::{GuestWindow, HostMemory, Steps};
 use std::sync::ledger::Ledger;
-use svm_model::{Access, Flush, Nested, NoMemory, Outer, Space};
+use svm_model::{Access, Flush, Nested, NoMemory, Space};
 
 /// A way to translate accesses, which may keep copies of what walks have found, and tell others of each access.
 ///
@@ -14,8 +15,6 @@ use svm_model::{Access, Flush, Nested, NoMemory, Outer, Space};
 /// kept (`copies`), an answer is that of the walk only while the rule is kept (`rule`), which says of each access, by the
 /// history before it, whether copies that stand for that history may serve it; where none are kept, it always is. One whom
 /// an access or a flush is told may refuse the notice, where any is told at all (`refuses`); what the walk marked stays.
-///
-/// So far no access passes through outer tables.
 pub trait Translator {
     ghost stands: { Self → List Told → Type 0 };
 
@@ -39,13 +38,12 @@ pub trait Translator {
     ) -> Result<Nested, NoMemory>
         requires window { IsWithin window memory.old.bytes }
         requires pages { window.size % 4096 ≡ 0 }
-        requires direct { space.now.outer ≡ Outer.Direct }
         ensures walks { (history : List Told) → stands self.old history →
             Needs copies (rule history (told_of space.now (guest_of window memory.old.bytes) access)) →
             Walks stands space.now (guest_of window memory.old.bytes) access history result self.new (guest_of window memory.new.bytes) }
         ensures physical { IfOk result IsPhysical }
         ensures refused { OnErr result (refuses ≡ true) }
-        ensures others { SameOutside window memory.old.bytes memory.new.bytes }
+        ensures others { SameOutside window memory.old memory.new }
         ensures steps { steps.new ≤ steps.old + cost }
         ensures later { steps.old ≤ steps.new };
 

@@ -20,7 +20,7 @@ use host_memory::{GuestWindow, HostMemory, Steps};
 use port_bus::Ports;
 use row_table::KeptRows;
 use std::sync::ledger::Ledger;
-use svm_model::{Facts, Outer, Space, Stepped, Vcpu};
+use svm_model::{Facts, Space, Stepped, Vcpu};
 
 /// The turn of a vcpu over its guest's memory, where its APIC gives this vector. How it came out is left in `stepped`, unless it
 /// went through, and in `outward` what came of its outward calls. Where one is refused, memory, what stands about the vcpu and the vcpu are those
@@ -47,7 +47,6 @@ pub fn take_turn<T: Translator, B: Ports, A: Apics, L: Ledger>(
     requires window { IsWithin window memory.old.bytes }
     requires pages { window.size % 4096 ≡ 0 }
     requires some { 4096 ≤ window.size }
-    requires direct { space.now.outer ≡ Outer.Direct }
     requires cost { 1 ≤ T.cost }
     requires begun { outward.old ≡ begun outward.old.calls }
     requires few { outward.old.calls ≤ 1 }
@@ -55,7 +54,7 @@ pub fn take_turn<T: Translator, B: Ports, A: Apics, L: Ledger>(
         Ensues T.stands T.copies T.rule (play (record { space = space.now; refused = refused_at outward.new.refused outward.new.calls }) (board_with (B.bus bus.old) (A.apic apics.old) None outward.old.calls None None) (guest_of window memory.old.bytes) []
         (turn_course (option_copied control.entry) facts.now vcpu.old interrupt))
         history translator.new (guest_of window memory.new.bytes) (board_with (B.bus bus.new) (A.apic apics.new) outward.new.sent outward.new.calls outward.new.refused outward.new.denied) vcpu.new stepped.new }
-    ensures others { SameOutside window memory.old.bytes memory.new.bytes }
+    ensures others { SameOutside window memory.old memory.new }
     ensures none_fell { NoneFell (B.faults bus.old) (B.faults bus.new) }
     ensures more { outward.old.calls ≤ outward.new.calls }
     ensures few { outward.new.calls ≤ 226 }

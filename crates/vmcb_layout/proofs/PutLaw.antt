@@ -1,9 +1,9 @@
 -- Who puts a field changes the value of that field alone: no two fields share a byte.
-use Rattle.std.proofs.Common.{◌≡◌, ◌≢◌, ◌⊎◌, inl, inr, ℕ, List, Bool, true, false, nat_le, ◌<◌, ◌≤◌, length, map, refl, sym, ap, ◌∙◌, take, drop, arith, ◌-◌, ◌^◌, ◌++◌, slice_set, slice_index, length-append, length-drop, append_assoc}
+use Rattle.std.proofs.Common.{◌≡◌, ◌≢◌, ◌⊎◌, inl, inr, ℕ, List, Bool, true, false, nat_le, ◌<◌, ◌≤◌, length, map, refl, sym, ap, ◌∙◌, take, drop, arith, ◌^◌, ◌++◌, slice_set, slice_index, length-append}
 use Rattle.std.specs.Prelude.{◌+◌, ◌==◌, ◌||◌}
 use Rattle.std.specs.List.{list_all, range_with_len}
 use Rattle.std.specs.Int.{w64, to_le_bytes}
-use Rattle.std.proofs.lemmas.List.{drop-take, take-take, drop-drop, take_at, drop_at, take-append-le, drop-append-le, length-take-le, get_or-map, get_or-set_same, get_or-set_other, length-set, length-map, ext_get_or}
+use Rattle.std.proofs.lemmas.List.{drop-take, take_at, drop_at, length-take-le, get_or-map, get_or-set_same, get_or-set_other, length-set, length-map, ext_get_or}
 use Rattle.std.proofs.lemmas.List.FromFn.{length-range_with_len, get_or-range_with_len}
 use Rattle.std.proofs.lemmas.List.Folds.{list_all_at}
 use Rattle.std.proofs.lemmas.Nat.{from_le_bytes-to_le_bytes_8}
@@ -14,6 +14,7 @@ use Rattle.svm_model.specs.Svm.Vmcb.{fields_in, with_field, with_value}
 use Rattle.svm_model.specs.declared.vmcbs.Field.{Field}
 use Rattle.svm_model.specs.declared.vmcbs.Field.TheVariants as field
 use Rattle.svm_model.specs.declared.vmcbs.FieldPlace.{FieldPlace}
+use Rattle.svm_model.proofs.PutLemmas.{put_at-before, put_at-behind}
 use Rattle.vmcb_layout.specs.Reading.{value_at}
 use Rattle.vmcb_layout.proofs.LayoutLemmas.{at_most_eight, fields_of, length-layout, narrow, place_at-law}
 use Rattle.vmcb_layout.specs.Widths.{IsWidth}
@@ -46,31 +47,6 @@ apart-test n m h k = in-range (is_apart n) m k (in-range is_apart_from_all n h a
 
 apart : (n m : ℕ) → n < 86 → m < 86 → n ≢ m → (end_at n ≤ (place_at m).offset) ⊎ (end_at m ≤ (place_at n).offset)
 apart n m h k d = grind (arith, nat_tests, apart-test n m h k, d)
-
--- bytes that end before what is put stay
-before : (memory bytes : List ℕ) (at from w : ℕ) → at ≤ length memory → from + w ≤ at → take w (drop from (put_at memory at bytes)) ≡ take w (drop from memory)
-before memory bytes at from w h k =
-    let size : length (take at memory) ≡ at = length-take-le at memory h in
-    let rest : List ℕ = bytes ++ drop (at + length bytes) memory in
-    let e : at ≡ from + (at - from) = omega (arith, k) in
-    let front : drop from (take at memory) ≡ take (at - from) (drop from memory) = ap (λ n. drop from (take n memory)) e ∙ drop-take from (at - from) memory in
-    let fits : w ≤ length (drop from (take at memory)) = omega (arith, k, size, length-drop from (take at memory)) in
-    ap (λ l. take w (drop from l)) (append_assoc (take at memory) bytes (drop (at + length bytes) memory))
-    ∙ ap (λ l. take w l) (drop-append-le from (take at memory) rest (omega (arith, k, size)))
-    ∙ take-append-le w (drop from (take at memory)) rest fits
-    ∙ ap (λ l. take w l) front
-    ∙ take-take w (at - from) (drop from memory) (omega (arith, k))
-
--- as do bytes behind it
-behind : (memory bytes : List ℕ) (at from : ℕ) → at + length bytes ≤ length memory → at + length bytes ≤ from → drop from (put_at memory at bytes) ≡ drop from memory
-behind memory bytes at from h k =
-    let size : length (take at memory ++ bytes) ≡ at + length bytes = omega (arith, length-append (take at memory) bytes, length-take-le at memory (omega (arith, h))) in
-    let e : from ≡ (at + length bytes) + (from - (at + length bytes)) = omega (arith, k) in
-    ap (λ n. drop n (put_at memory at bytes)) e
-    ∙ sym (drop-drop (from - (at + length bytes)) (at + length bytes) (put_at memory at bytes))
-    ∙ ap (drop (from - (at + length bytes))) (drop_at (take at memory ++ bytes) (drop (at + length bytes) memory) (at + length bytes) size)
-    ∙ drop-drop (from - (at + length bytes)) (at + length bytes) memory
-    ∙ ap (λ n. drop n memory) (sym e)
 
 -- what was put is there
 there : (memory bytes : List ℕ) (at : ℕ) → at ≤ length memory → take (length bytes) (drop at (put_at memory at bytes)) ≡ bytes
@@ -116,8 +92,8 @@ number_same memory at w value k h inside =
 number_other : (memory : List ℕ) (at w value from v : ℕ) → IsWidth w → at + w ≤ length memory → (at + w ≤ from) ⊎ (from + v ≤ at) → number_at (with_number memory at w value) from v ≡ number_at memory from v
 number_other memory at w value from v k inside (inl h) =
     let long : length (bytes_of_result w value) ≡ w = length-bytes w value k in
-    ap (λ l. value_of_bytes (take v l)) (behind memory (bytes_of_result w value) at from (omega (arith, inside, long)) (omega (arith, h, long)))
-number_other memory at w value from v k inside (inr h) = ap value_of_bytes (before memory (bytes_of_result w value) at from v (omega (arith, inside)) h)
+    ap (λ l. value_of_bytes (take v l)) (put_at-behind memory (bytes_of_result w value) at from (omega (arith, inside, long)) (omega (arith, h, long)))
+number_other memory at w value from v k inside (inr h) = ap value_of_bytes (put_at-before memory (bytes_of_result w value) at from v (omega (arith, inside)) h)
 
 value-in : (f : FieldPlace → ℕ) (n : ℕ) → n < 86 → slice_index (map f layout) n ≡ f (place_at n)
 unfolding place_at

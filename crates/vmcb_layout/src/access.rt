@@ -78,7 +78,7 @@ pub fn put(
     ensures alone { vmcb + (place_of field).offset + (place_of field).width ≤ window.size → (result ≡ Ok tt)
         × (fields_in (guest_of window memory.new.bytes) vmcb ≡ with_value (fields_in (guest_of window memory.old.bytes) vmcb) field value) }
     ensures page { vmcb + 4096 ≤ window.size → guest_of window memory.new.bytes ≡ with_field vmcb field value (guest_of window memory.old.bytes) }
-    ensures others { SameOutside window memory.old.bytes memory.new.bytes }
+    ensures others { SameOutside window memory.old memory.new }
 {
     let place = line_of(field);
     let bytes = bytes_of(value, place.width);
@@ -98,7 +98,7 @@ pub fn put_fields(
     requires window { IsWithin window memory.old.bytes }
     requires page { vmcb + 4096 ≤ window.size }
     ensures put { guest_of window memory.new.bytes ≡ with_fields vmcb (values_of fields.now list.now) (guest_of window memory.old.bytes) }
-    ensures others { SameOutside window memory.old.bytes memory.new.bytes }
+    ensures others { SameOutside window memory.old memory.new }
 {
     let [field, rest @ ..] = list else {
         return;

@@ -7,7 +7,7 @@ use Rattle.svm_model.specs.Instructions.Operands.{rax, whole_register}
 use Rattle.svm_model.specs.Svm.Vmexit.{host_registers, left_vcpu, stored_exit}
 use Rattle.svm_model.specs.Svm.VmloadVmsave.{moved_at, vmloaded, vmsaved}
 use Rattle.svm_model.specs.Svm.Vmrun.{entered}
-use Rattle.svm_model.specs.Svm.Vmcb.{Fields, FieldValue, fields_at, fields_in, has_nested_paging, value, with_fields}
+use Rattle.svm_model.specs.Svm.Vmcb.{Fields, FieldValue, fields_at, fields_in, value, with_fields}
 use Rattle.svm_model.specs.Svm.VmcbRules.{broken, unoffered_mode}
 use Rattle.svm_model.specs.declared.names.End.TheVariants.{OutsideMemory, Mode}
 use Rattle.svm_model.specs.declared.register_file.Registers.{Registers}
@@ -52,13 +52,8 @@ abbrev pub on_mode : Way → Turned → ℕ → ℕ → Fields → Option ℕ �
 on_mode way turned vmcb next_rip v None = behind_flush way turned (flush_of (value v f.TlbControl) (value v f.Asid)) (entered_turn vmcb next_rip v)
 on_mode way turned vmcb next_rip v (Some rule) = over turned.memory turned.board turned.vcpu (Ends (Mode rule)) []
 
--- a mode that is not offered; so far nested paging is none either (Mode 9)
-abbrev pub unoffered_so_far : Fields → Option ℕ → Option ℕ
-unoffered_so_far v None = if has_nested_paging v then Some 9 else None
-unoffered_so_far v (Some rule) = Some rule
-
 abbrev pub on_broken : Way → Turned → ℕ → ℕ → Fields → Option ℕ → Turned
-on_broken way turned vmcb next_rip v None = on_mode way turned vmcb next_rip v (unoffered_so_far v (unoffered_mode v))
+on_broken way turned vmcb next_rip v None = on_mode way turned vmcb next_rip v (unoffered_mode v)
 on_broken way turned vmcb next_rip v (Some rule) = exited_at_once way turned vmcb next_rip v
 
 -- 16 address-space identifiers, and flushes by them where the image's feature word has bit 0

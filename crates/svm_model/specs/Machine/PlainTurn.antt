@@ -1,14 +1,14 @@
 -- The turn of a vcpu on the plain machine, in L1 and in L2: the VMCB in use is read from memory, the course of the turn's work
 -- is played, and what it comes out to is done: a #VMEXIT, or a row that moves a VMCB.
-use Rattle.std.specs.Prelude.{ℕ, List, [], false, if◌then◌else◌, Option, Some, None, Result, Ok, Err}
+use Rattle.std.specs.Prelude.{ℕ, List, [], false, Option, Some, None, Result, Ok, Err}
 use Rattle.svm_model.specs.Machine.Apic.{pending}
 use Rattle.svm_model.specs.Turn.Control.{Control, space_of}
 use Rattle.svm_model.specs.Turn.Course.{Board, Found, Turned, Way}
 use Rattle.svm_model.specs.Turn.Play.{play}
 use Rattle.svm_model.specs.declared.vcpus.Vcpu.{Vcpu}
-use Rattle.svm_model.specs.Svm.Vmcb.{Fields, fields_at, has_nested_paging}
+use Rattle.svm_model.specs.Svm.Vmcb.{Fields, fields_at}
 use Rattle.svm_model.specs.Turn.Work.{turn_course}
-use Rattle.svm_model.specs.declared.names.End.TheVariants.{OutsideMemory, Mode}
+use Rattle.svm_model.specs.declared.names.End.TheVariants.{OutsideMemory}
 use Rattle.svm_model.specs.declared.turns.Facts.{Facts}
 use Rattle.svm_model.specs.declared.turns.Stepped.{Stepped}
 use Rattle.svm_model.specs.declared.turns.Stepped.TheVariants.{Went, Leaves, Moves, Ends}
@@ -41,15 +41,11 @@ turned_under refused control facts board memory vcpu =
 abbrev pub control_of : Fields → Control
 control_of v = record { fields = v; bar = None }
 
--- nested paging is not offered yet, also where it is asked for behind the VMRUN
-abbrev pub unless_nested : Fields → Turned → Turned → Turned
-unless_nested v turned rest = if has_nested_paging v then over turned.memory turned.board turned.vcpu (Ends (Mode 9)) [] else rest
-
 abbrev pub turned_by : Option ℕ → Facts → Board → List ℕ → Vcpu → ℕ → Result Fields OutsideAt → Turned
 turned_by refused facts board memory vcpu vmcb (Err outside) = over memory board vcpu (Ends (OutsideMemory outside.address)) []
 turned_by refused facts board memory vcpu vmcb (Ok v) =
     noticed (way_of refused (Some (control_of v)) vcpu) (Found vmcb false v) (over memory board vcpu Went [])
-    (λ t. unless_nested v t (turned_under refused (Some (control_of v)) facts t.board t.memory t.vcpu))
+    (λ t. turned_under refused (Some (control_of v)) facts t.board t.memory t.vcpu)
 
 abbrev pub turned_in : Option ℕ → Facts → Board → List ℕ → Vcpu → Option Inside → Turned
 turned_in refused facts board memory vcpu None = turned_under refused None facts board memory vcpu

@@ -106,7 +106,7 @@ rules v offered =
     (value v f.Asid == 0) ∷
     -- 14 the ASID is not offered
     nat_le offered.asids (value v f.Asid) ∷
-    -- 15 the IOPM of 12 KiB or the MSRPM of 8 KiB goes past 2^40
+    -- 15 a permission map, that of ports with three pages or that of MSRs with two, does not end within 2^40
     (is_past_width f.IopmBase 0x3000 v || is_past_width f.MsrpmBase 0x2000 v) ∷
     -- 16 EVENTINJ is illegal
     is_illegal_injection (injection_of (value v f.EventInj)) ∷

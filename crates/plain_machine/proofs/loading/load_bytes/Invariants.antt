@@ -8,7 +8,7 @@ invariant-loop-done l = record {
   within : l.done ≤ length l.bytes;
   window : IsWithin l.window l.memory.bytes;
   loaded : guest_of l.window l.memory.bytes ≡ put_at (guest_of l.window l.initial.memory.bytes) l.address (take l.done l.bytes);
-  others : SameOutside l.window l.initial.memory.bytes l.memory.bytes;
+  others : SameOutside l.window l.initial.memory l.memory;
 }
 
 abbrev pub decreases-loop-done : goal.decreases-loop-done

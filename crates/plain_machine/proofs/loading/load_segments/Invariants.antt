@@ -8,5 +8,5 @@ abbrev pub invariant-loop-segment : goal.invariant-loop-segment
 invariant-loop-segment l = record {
   window : IsWithin l.window l.memory.bytes;
   rest : loaded (guest_of l.window l.memory.bytes) (drop l.segment-index l.segments) ≡ loaded (guest_of l.window l.initial.memory.bytes) l.segments;
-  others : SameOutside l.window l.initial.memory.bytes l.memory.bytes;
+  others : SameOutside l.window l.initial.memory l.memory;
 }

@@ -24,6 +24,6 @@ loop-guest-preserved c =
     let g = c.guest-item.result in
     let is : c.in_ok-slot.slot ≡ slot_of c.loop-guest.base (get_or c.args.guests.now c.loop-guest.guest-index g) = c.in_ok-slot.ensures.slot ∙ ap (slot_of c.loop-guest.base) c.guest-item.is in
     let filled = c.in_ok-slot.ensures.loaded ∙ ap (λ (k : ImageGuest). loaded (guest_of c.in_ok-slot.slot.window c.loop-guest.memory.bytes) k.segments) c.guest-item.is in
-    let next = opened_next c.args.guests.now c.loop-guest.guest-index g c.loop-guest.slots.items c.loop-guest.base c.loop-guest.memory.bytes c.open_guest.new.memory.bytes c.in_ok-slot.slot
+    let next = opened_next c.args.guests.now c.loop-guest.guest-index g c.loop-guest.slots.items c.loop-guest.base c.loop-guest.memory c.open_guest.new.memory c.in_ok-slot.slot
     c.requires.lawful c.loop-guest-test.true c.loop-guest.invariant.opened is filled c.in_ok-slot.ensures.others in
     record { opened = rw (c.in-Ok.ensures.items, ap (λ (s : Kept). s.window.size) c.slot.view_is) next }

@@ -29,7 +29,7 @@ at_place g c P p = at_slot c.args.slots.now c.from.result c.args.moment.now.vcpu
 changed : (g : Over) (c : goal.After-turn_guest g) (guest : Guest) → guest_at c.turn_guest.new.memory.bytes c.turn_guest.new.slot ≡ guest →
     guests_at c.turn_guest.new.memory.bytes (slice_set c.args.slots.now c.from.result c.turn_guest.new.slot) ≡ slice_set (guests_at c.args.memory.now.bytes c.args.slots.now) c.args.moment.now.vcpu.guest.0 guest
 changed g c guest e =
-    slot_set _ c.args.slots.now c.from.result c.index-slots-from.result c.turn_guest.new.slot c.args.memory.now.bytes c.turn_guest.new.memory.bytes guest c.requires.row (below g c) c.turn_guest.ensures.others e
+    slot_set _ c.args.slots.now c.from.result c.index-slots-from.result c.turn_guest.new.slot c.args.memory.now c.turn_guest.new.memory guest c.requires.row (below g c) c.turn_guest.ensures.others e
     ∙ ap (λ (n : ℕ). slice_set (guests_at c.args.memory.now.bytes c.args.slots.now) n guest) c.from.ensures
 
 pub returns-clause-guests : goal.returns-clause-guests

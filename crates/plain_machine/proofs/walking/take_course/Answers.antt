@@ -36,7 +36,7 @@ returns-clause-played g c =
     let f = c.take_turn.ensures.follows [] tt (needs_nothing _) in
     turn-played (cut g c) (under g c) c.args.facts.now (start g c) (old_memory g c) c.args.vcpu.now c.interrupt_for-interrupt.result c.space-space.result
     (guest_of c.args.window c.take_turn.new.memory.bytes) (last_board g c) c.take_turn.new.vcpu c.take_turn.new.stepped
-    (c.interrupt_for-interrupt.ensures c.args.facts.now) c.space-space.ensures.space f.memory_is f.board_is f.vcpu_is f.stepped_is
+    (c.interrupt_for-interrupt.ensures c.args.facts.now) c.space-space.ensures f.memory_is f.board_is f.vcpu_is f.stepped_is
 
 pub returns-clause-page : goal.returns-clause-page
 returns-clause-page g c = λ h.

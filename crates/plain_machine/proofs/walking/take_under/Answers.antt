@@ -38,4 +38,4 @@ returns-then-is_unsettled-clause-turned g c =
     subst (λ (r : Option ℕ). Gives (turned_under r control c.args.facts.now start memory c.args.vcpu.now) new last c.settle.new.vcpu c.settle.new.stepped) (same-cut turn.refused turn.calls c.settle.new.calls none)
     (under-settled turn.refused turn.calls control c.args.facts.now start memory c.args.vcpu.now mid between c.take_course.new.vcpu c.take_course.new.stepped new last c.settle.new.vcpu c.settle.new.stepped
     c.take_course.ensures.played c.take_course.ensures.went
-    (λ (space : Space) (told : List Told). c.settle.ensures.gives space control between told c.requires.direct))
+    (λ (space : Space) (told : List Told). c.settle.ensures.gives space control between told (sym c.asks-nested.ensures)))

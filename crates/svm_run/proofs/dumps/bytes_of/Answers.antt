@@ -1,6 +1,6 @@
 -- The byte at the address is there, and is the next one.
 use Rattle.std.proofs.Common.{◌∙◌, ◌<◌, arith, slice_get, length, get_or}
-use Rattle.svm_run.specs.Outcome.{memory_of}
+use Rattle.svm_model.specs.Formats.Trace.{memory_of}
 use Rattle.svm_run.proofs.Shown.{bytes_shown, few_bytes, one_more, read_there, same_byte}
 use Rattle.svm_run.proofs.dumps.bytes_of.Goals as goal
 

@@ -1,5 +1,5 @@
 use Rattle.std.proofs.Common.{◌≡◌, ◌≤◌, ◌+◌, take, drop, slice_get}
-use Rattle.svm_run.specs.Outcome.{memory_of}
+use Rattle.svm_model.specs.Formats.Trace.{memory_of}
 use Rattle.svm_run.proofs.dumps.bytes_of.Given as goal
 
 -- the bytes so far, and the address of the next one

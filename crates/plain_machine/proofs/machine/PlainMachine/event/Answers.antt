@@ -20,13 +20,13 @@ pub returns-in-Ok-clause-ends_stay : goal.returns-in-Ok-clause-ends_stay
 returns-in-Ok-clause-ends_stay g c = λ guest e s.
     let bus = g.B.Ports.bus c.args.bus.now in
     let P : World → Type 0 = λ w. end_of_guest (slice_get w.guests guest) ≡ Some e in
-    subst P (sym (c.in-Ok.ensures.world ∙ ap (λ (m : Machine). (event_of m.world bus c.args.event).world) c.ring_timers.ensures.timers))
+    subst P (sym (c.in-Ok.ensures.world ∙ ap (λ (w : World). (event_of w bus c.args.event).world) c.ring_timers.ensures.timers))
     (event-ends_stay c.args.self.now.world bus c.args.event guest e s)
 
 pub returns-in-Ok-clause-others : goal.returns-in-Ok-clause-others
 returns-in-Ok-clause-others g c =
     let bus = g.B.Ports.bus c.args.bus.now in
-    subst (OthersStay c.args.self.now.world c.args.event) (sym (c.in-Ok.ensures.world ∙ ap (λ (m : Machine). (event_of m.world bus c.args.event).world) c.ring_timers.ensures.timers))
+    subst (OthersStay c.args.self.now.world c.args.event) (sym (c.in-Ok.ensures.world ∙ ap (λ (w : World). (event_of w bus c.args.event).world) c.ring_timers.ensures.timers))
     (event-others c.args.self.now.world bus c.args.event)
 
 pub returns-in-Ok-clause-shape : goal.returns-in-Ok-clause-shape
@@ -41,7 +41,7 @@ returns-in-Err-clause-ends_stay g c = λ guest e s.
     let call = c.in-Err.cut.call in
     let P : World → Type 0 = λ w. end_of_guest (slice_get w.guests guest) ≡ Some e in
     subst P
-    (sym (ap (λ (m : Machine). m.world) c.self.view_is ∙ (c.in-Err.ensures.reached ∙ ap (λ (m : Machine). reached_of call m.world bus c.args.event) c.ring_timers.ensures.timers)))
+    (sym (ap (λ (m : Machine). m.world) c.self.view_is ∙ (c.in-Err.ensures.reached ∙ ap (λ (w : World). reached_of call w bus c.args.event) c.ring_timers.ensures.timers)))
     (reached-ends_stay call c.args.self.now.world bus c.args.event guest e s)
 
 pub returns-in-Err-clause-others : goal.returns-in-Err-clause-others
@@ -49,7 +49,7 @@ returns-in-Err-clause-others g c =
     let bus = g.B.Ports.bus c.args.bus.now in
     let call = c.in-Err.cut.call in
     subst (OthersStay c.args.self.now.world c.args.event)
-    (sym (ap (λ (m : Machine). m.world) c.self.view_is ∙ (c.in-Err.ensures.reached ∙ ap (λ (m : Machine). reached_of call m.world bus c.args.event) c.ring_timers.ensures.timers)))
+    (sym (ap (λ (m : Machine). m.world) c.self.view_is ∙ (c.in-Err.ensures.reached ∙ ap (λ (w : World). reached_of call w bus c.args.event) c.ring_timers.ensures.timers)))
     (reached-others call c.args.self.now.world bus c.args.event)
 
 pub returns-in-Err-clause-shape : goal.returns-in-Err-clause-shape

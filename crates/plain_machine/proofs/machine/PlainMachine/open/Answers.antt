@@ -21,7 +21,7 @@ row : (c : goal.After-new-2) → AreInRow (length c.open_guests.new.memory.bytes
 row c =
     let guests = c.args.image.now.guests in
     let pages : c.pages_in.result ≡ pages_in guests = c.pages_in.ensures.pages ∙ ap pages_in (c.deref.ensures.value ∙ ap (λ (i : Image). i.guests) c.image.view_is) in
-    let size : length c.open_guests.new.memory.bytes ≡ 4096 * c.pages_in.result = c.in_ok-guests.ensures.size ∙ ap length c.in-Ok.ensures ∙ length-replicate (4096 * c.pages_in.result) 0 in
+    let size : length c.open_guests.new.memory.bytes ≡ 4096 * c.pages_in.result = c.in_ok-guests.ensures.size ∙ ap length c.in-Ok.ensures.bytes ∙ length-replicate (4096 * c.pages_in.result) 0 in
     let room : 0 + 4096 * pages_in guests ≤ length c.open_guests.new.memory.bytes = omega (arith, pages, size) in
     let slots : c.in_ok-guests.guests.items ≡ slots_of 0 guests = c.in_ok-guests.ensures.slots ∙ ap (slots_of 0) (guests_are c) in
     subst (λ (ss : List Kept). AreInRow (length c.open_guests.new.memory.bytes) 0 (layouts ss)) (sym slots)
@@ -30,8 +30,11 @@ row c =
 there : (c : goal.After-new-2) → AreThere (counts (layouts c.in_ok-guests.guests.items)) c.in_ok-placing.placing.items
 there c = subst (λ (ps : List (Option VcpuId)). AreThere (counts (layouts c.in_ok-guests.guests.items)) ps) (sym c.in_ok-placing.ensures) (there-none (counts (layouts c.in_ok-guests.guests.items)) c.image.inside.cpus)
 
+size : (c : goal.After-new-2) → length c.open_guests.new.memory.bytes ≤ 335544320
+size c = omega (arith, c.in_ok-guests.ensures.size ∙ ap length c.in-Ok.ensures.bytes ∙ length-replicate (4096 * c.pages_in.result) 0, c.pages_in.ensures.most, ap length (c.deref.ensures.value ∙ ap (λ (i : Image). i.guests) c.image.view_is), c.requires.lawful.most_guests)
+
 pub invariant_of-result : goal.invariant_of-result
-invariant_of-result c = (row c, there c)
+invariant_of-result c = (row c, there c, size c)
 
 -- the world of its parts
 abbrev world_with : goal.After-new-2 → ℕ → List Guest → List (Option VcpuId) → World

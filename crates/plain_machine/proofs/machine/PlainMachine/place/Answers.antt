@@ -2,6 +2,7 @@ use Rattle.std.proofs.Common.{◌≡◌, ◌∙◌, ℕ, List, Option, Some, len
 use Rattle.svm_model.specs.Machine.Shapes.{IsVcpu, world_shape}
 use Rattle.svm_model.specs.declared.names.VcpuId.{VcpuId}
 use Rattle.plain_machine.specs.Machines.{Machine}
+use Rattle.plain_machine.specs.Marks.{marks_in}
 use Rattle.plain_machine.specs.Slots.{AreThere, IsThere, counts, guests_at, layouts}
 use Rattle.plain_machine.proofs.Worlds.{counts-layouts}
 use Rattle.std.proofs.lemmas.List.{length-map, length-set, take_at}
@@ -16,7 +17,7 @@ invariant_of-self c =
     let there : AreThere (counts (layouts c.self.inside.guests.items)) c.place_on.new.placing
     = c.place_on.ensures.there _ here (subst (AreThere (counts (layouts c.self.inside.guests.items))) (sym c.deref_mut.ensures.value) c.self.invariant.1) in
     let long : length c.place_on.new.placing ≡ c.self.inside.placing.len = omega (arith, c.place_on.auto.placing, c.deref_mut.ensures.len) in
-    (c.self.invariant.0, subst (AreThere (counts (layouts c.self.inside.guests.items))) (sym (take_at c.place_on.new.placing _ _ long)) there)
+    (c.self.invariant.0, subst (AreThere (counts (layouts c.self.inside.guests.items))) (sym (take_at c.place_on.new.placing _ _ long)) there, c.self.invariant.2)
 
 pub returns : goal.returns
 returns c =
@@ -33,10 +34,11 @@ returns c =
         event = c.self.inside.event;
       };
       stopped = c.self.inside.stopped;
+      marks = marks_in c.self.inside.memory (layouts c.self.inside.guests.items);
     } in
     let long : length c.place_on.new.placing ≡ c.self.inside.placing.len = omega (arith, c.place_on.auto.placing, c.deref_mut.ensures.len) in
     let is : c.place_on.new.placing ≡ next = c.place_on.ensures.placed ∙ ap (λ (ps : List (Option VcpuId)). slice_set (map (without id) ps) c.args.cpu.0 (Some id)) c.deref_mut.ensures.value in
     let same : length next ≡ length old = length-set (map (without id) old) c.args.cpu.0 (Some id) ∙ length-map old (without id) in
     ap (λ (ps : List (Option VcpuId)). of (length ps) ps) (take_at c.place_on.new.placing _ _ long ∙ is)
     ∙ ap (λ (n : ℕ). of n next) same
-    ∙ ap (λ (m : Machine). record { world = placed m.world c.args.cpu id; stopped = m.stopped }) c.self.view_is
+    ∙ ap (λ (m : Machine). record m { world = placed m.world c.args.cpu id }) c.self.view_is

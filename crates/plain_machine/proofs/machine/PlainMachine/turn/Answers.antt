@@ -1,4 +1,4 @@
-use Rattle.std.proofs.Common.{◌≡◌, ◌∙◌, ℕ, List, Option, Some, None, length, map, take, drop, ◌++◌, ap, sym, subst, arith, slice_get, slice_set, IfSome}
+use Rattle.std.proofs.Common.{◌≡◌, ◌∙◌, ℕ, List, Option, Some, None, length, map, take, drop, ◌++◌, ap, sym, subst, refl, arith, slice_get, slice_set, IfSome}
 use Rattle.svm_model.specs.Machine.Guest.{Guest}
 use Rattle.svm_model.specs.Machine.Shapes.{world_shape}
 use Rattle.svm_model.specs.Machine.Runs.{IsOut}
@@ -9,6 +9,7 @@ use Rattle.plain_machine.specs.GuestTurns.{guest_turn}
 use Rattle.plain_machine.specs.Machines.{Machine}
 use Rattle.plain_machine.proofs.GuestTurnLemmas.{on_ok, if_ok, if_err}
 use Rattle.plain_machine.specs.Slots.{Kept, guest_at, guests_at, layouts}
+use Rattle.plain_machine.proofs.MarkLemmas.{told-written}
 use Rattle.plain_machine.proofs.Worlds.{guest_there, named_place, named_vcpu, shape-written, slot_there, in_world, moment_of, out_in_world, InWorld}
 use Rattle.plain_machine.proofs.machine.PlainMachine.turn.Given.{Over}
 use Rattle.plain_machine.proofs.machine.PlainMachine.turn.Goals as goal
@@ -94,3 +95,12 @@ returns-clause-shape g c =
     let same : layouts new ≡ layouts old = c.turn_in.ensures.layouts ∙ ap layouts c.deref_mut.ensures.value in
     shape-written (length c.self.inside.placing.items) c.self.inside.memory.bytes c.turn_in.new.memory.bytes old new _ long c.self.invariant.0 same c.turn_in.ensures.size
     ∙ ap (λ (m : Machine). world_shape m.world) c.self.view_is
+
+pub returns-clause-told : goal.returns-clause-told
+returns-clause-told g c =
+    let old = c.self.inside.guests.items in
+    let new = c.turn_in.new.slots in
+    let long : length new ≡ c.self.inside.guests.len = omega (arith, c.turn_in.auto.slots, c.deref_mut.ensures.len) in
+    let same : layouts new ≡ layouts old = c.turn_in.ensures.layouts ∙ ap layouts c.deref_mut.ensures.value in
+    told-written c.self.inside.memory c.turn_in.new.memory old new _ _ _ long c.self.invariant.0 same c.turn_in.ensures.marked
+    (ap (λ (m : Machine). m.world.guests) (sym c.self.view_is)) (ap (λ (m : Machine). m.marks) (sym c.self.view_is)) refl refl
