@@ -194,7 +194,8 @@ const RIGHT: &str =
     "events 2\nguest 0 live\nvcpu 0.0 l1 halted rip=5001 rfl=2 cr0=80010033 cr3=1000 cr4=a0 efer=d00\n";
 
 /// The same with a block for each event: the fetch sets the accessed bits of four entries.
-const TRACED: &str = "event 0 place 0 0.0\nevent 1 run 0 0.0\nvcpu 0.0 l1 halted rip=5001 rfl=2 cr0=80010033 cr3=1000 cr4=a0 efer=d00\nmem 0 at=1000 bytes=27\nmem 0 at=2000 bytes=27\nmem 0 at=3000 bytes=27\nmem 0 at=4028 bytes=27\nevents 2\nguest 0 live\nvcpu 0.0 l1 halted rip=5001 rfl=2 cr0=80010033 cr3=1000 cr4=a0 efer=d00\n";
+const TRACED: &str =
+    "event 0 place 0 0.0\nevent 1 run 0 0.0\nvcpu 0.0 l1 halted rip=5001 rfl=2 cr0=80010033 cr3=1000 cr4=a0 efer=d00\nmem 0 at=1000 bytes=27\nmem 0 at=2000 bytes=27\nmem 0 at=3000 bytes=27\nmem 0 at=4028 bytes=27\nevents 2\nguest 0 live\nvcpu 0.0 l1 halted rip=5001 rfl=2 cr0=80010033 cr3=1000 cr4=a0 efer=d00\n";
 
 #[test]
 fn jobs_end_as_the_formats_say(rt: HostRuntime) -> Result<(), Fail> {
