@@ -1,4 +1,4 @@
--- Images, scripts, printed text, and the text of a trace.
+-- Images, scripts, printed text, the text of a trace, and that of a verdict.
 pub mod Image
 pub mod ImageBytes
 pub mod ImageFields
@@ -9,3 +9,4 @@ pub mod ScriptLines
 pub mod ScriptWords
 pub mod Text
 pub mod Trace
+pub mod VerdictText

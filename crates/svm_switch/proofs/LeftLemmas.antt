@@ -16,7 +16,7 @@ use Rattle.svm_switch.specs.Left.{left_fields, stored_in_all}
 use Rattle.svm_switch.specs.declared.in_memory.Leaving.{Leaving}
 use Rattle.svm_switch.specs.declared.in_memory.TheConstants.{EXIT_FIELDS}
 use Rattle.svm_switch.proofs.SavedLemmas.{with_fields-append}
-use Rattle.vmcb_layout.specs.Values.{value_of, values_of}
+use Rattle.svm_model.specs.Svm.Vmcb.{value_of, values_of}
 
 abbrev number : FieldValue → ℕ
 number s = number_of s.field

@@ -5,7 +5,7 @@ ghost use Rattle.svm_model.specs.Svm.Intercepts.{invalid_exit};
 ghost use Rattle.svm_model.specs.Svm.Vmcb.{fields_in, with_fields, with_values};
 ghost use Rattle.svm_model.specs.Svm.Vmexit.{brought_back, host_registers, stored_exit};
 ghost use Rattle.svm_switch.specs.Left.{left_fields, pat_fields, stored_in_all};
-ghost use Rattle.vmcb_layout.specs.Values.{values_of};
+ghost use Rattle.svm_model.specs.Svm.Vmcb.{values_of};
 
 use crate::leaving::{bring_back, reset, store_state};
 use crate::stores::{store_exit, store_live};

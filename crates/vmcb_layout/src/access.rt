@@ -3,7 +3,7 @@ ghost use Rattle.std.specs.Prelude.{◌≡◌, ◌+◌, ◌^◌, ◌<◌, ◌≤
 ghost use Rattle.svm_model.specs.Memory.Bytes.{IsWithin, SameOutside, bytes_at, bytes_of_result, guest_of};
 ghost use Rattle.svm_model.specs.Svm.Vmcb.{fields_in, value as value_in, with_field, with_fields, with_value};
 ghost use Rattle.svm_model.specs.Svm.VmcbLayout.{place_of};
-ghost use Rattle.vmcb_layout.specs.Values.{values_of};
+ghost use Rattle.svm_model.specs.Svm.Vmcb.{values_of};
 ghost use Rattle.vmcb_layout.specs.Widths.{IsWidth};
 
 use crate::fields::Fields;

@@ -43,6 +43,12 @@ pub record FieldValue : Type 0 where
   pub field : Field
   pub value : ℕ
 
+abbrev pub value_of : Fields → Field → FieldValue
+value_of fields field = record { field = field; value = value fields field }
+
+abbrev pub values_of : Fields → List Field → List FieldValue
+values_of fields list = map (value_of fields) list
+
 -- the fields with these values
 unfoldable pub with_values : List FieldValue → Fields → Fields
 with_values [] fields = fields

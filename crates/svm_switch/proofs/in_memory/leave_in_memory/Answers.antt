@@ -3,7 +3,7 @@ use Rattle.svm_model.specs.Memory.Bytes.{guest_of}
 use Rattle.svm_model.specs.Svm.Vmcb.{Fields, FieldValue, fields_in, with_fields, with_values}
 use Rattle.svm_switch.proofs.LeftLemmas.{size-found, values-left}
 use Rattle.svm_switch.specs.Left.{left_fields, stored_in_all}
-use Rattle.vmcb_layout.specs.Values.{values_of}
+use Rattle.svm_model.specs.Svm.Vmcb.{values_of}
 use Rattle.svm_switch.proofs.in_memory.leave_in_memory.Goals as goal
 
 pub returns-clause-stored : goal.returns-clause-stored

@@ -4,7 +4,7 @@ use Rattle.svm_model.specs.Svm.Intercepts.{invalid_exit}
 use Rattle.svm_model.specs.Svm.Vmcb.{Fields, FieldValue, with_fields}
 use Rattle.svm_switch.proofs.LeftLemmas.{size-found, values-exit}
 use Rattle.svm_switch.specs.declared.in_memory.TheConstants.{EXIT_FIELDS}
-use Rattle.vmcb_layout.specs.Values.{values_of}
+use Rattle.svm_model.specs.Svm.Vmcb.{values_of}
 use Rattle.svm_switch.proofs.in_memory.refuse_in_memory.Goals as goal
 
 pub returns-clause-stored : goal.returns-clause-stored
