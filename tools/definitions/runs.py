@@ -2,6 +2,7 @@
 
 The definitions read the image and the script, make of each event what it does, and say the report and the blocks of a trace."""
 
+from functools import reduce
 from itertools import compress, count
 from operator import is_not
 
@@ -138,11 +139,69 @@ class Run:
     def trace(self):
         return "".join(step.block() for step in self.steps()) + self.report()
 
+    def audit(self):
+        """The line of the verdict; the run ends behind the event of its first breach."""
+        rules = Rules(self.definitions)
+        breaches = (rules.breach_of(step) for step in self.steps())
+        first = next((breach for breach in breaches if breach is not None), None)
+        said = self.definitions.keeps_line(self.world["event"]) if first is None else self.definitions.breach_line(first)
+        return text(said)
+
+
+# The rules of maintenance.
+
+
+class Rules:
+    """What may have been kept of each vcpu, by the definitions."""
+
+    def __init__(self, definitions):
+        self.definitions = definitions
+        self.known = {}
+
+    def breach_of(self, step):
+        """The first breach of an event, or None; what is known is then that behind it."""
+        turn = self.definitions.turn_in(step.before, step.event, step.effect["vcpu"])
+        if variant_name(turn) == "None":
+            return None
+        vcpu = turn[1]["vcpu"]["guest"]["0"], turn[1]["vcpu"]["index"]
+        known = self.known.get(vcpu) or self.definitions.nothing_known()
+        stale = self.definitions.first_in(step.told, known)
+        self.known[vcpu] = written_out(reduce(self.known_after, step.told, known), known, step.told)
+        return None if variant_name(stale) == "None" else self.definitions.breach_in(turn[1], stale[1])
+
+    def known_after(self, known, told):
+        return self.definitions.known_after(told, known)
+
+
+def written_out(known, before, told):
+    """The same, with each record but once, the oldest of equal ones, and with what is held as a table. An equal record is dropped
+    with the other, and the one that was added first counts, so that nothing is lost."""
+    records = known["records"] if known["records"] is before["records"] else oldest_of_equal(known["records"])
+    vmcbs = getattr(before["held"], "vmcbs", {}).keys() | {thing[1] for thing in told if variant_name(thing) in ("Found", "Left")}
+    return {"records": records, "held": HeldTable({vmcb: known["held"](vmcb) for vmcb in vmcbs})}
+
+
+def oldest_of_equal(records):
+    kept = {repr(record): record for record in reversed(records)}
+    return list(reversed(kept.values()))
+
+
+class HeldTable:
+    """What is held of each VMCB, by its address."""
+
+    def __init__(self, vmcbs):
+        self.vmcbs = vmcbs
+
+    def __call__(self, vmcb):
+        return self.vmcbs.get(vmcb, ("None",))
+
+
+JOBS = {"run": Run.run, "trace": Run.trace, "audit": Run.audit}
+
 
 def printed(definitions, word, image, script):
-    """What `run` or `trace` prints."""
+    """What `run`, `trace` or `audit` prints."""
     try:
-        run = Run(definitions, image, script)
+        return JOBS[word](Run(definitions, image, script))
     except Refused as refusal:
         return str(refusal)
-    return run.trace() if word == "trace" else run.run()

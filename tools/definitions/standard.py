@@ -120,6 +120,10 @@ def option_map(function, option):
     return ("Some", function(option[1])) if option[0] == "Some" else option
 
 
+def option_or(option, other):
+    return option if option[0] == "Some" else other
+
+
 # The words, with their numbers of arguments. A width of integers is its number of bytes.
 WORDS = {
     "true": (0, True),
@@ -165,7 +169,10 @@ WORDS = {
     "filter": (2, lambda test, items: [item for item in items if test(item)]),
     "list_all": (2, lambda test, items: all(test(item) for item in items)),
     "list_any": (2, lambda test, items: any(test(item) for item in items)),
+    "beq": (2, lambda a, b: a == b),
     "is_some": (1, lambda option: option[0] == "Some"),
+    "is_none": (1, lambda option: option[0] == "None"),
+    "option_or": (2, option_or),
     "option_map": (2, option_map),
     "option_to_list": (1, lambda option: list(option[1:])),
     "codes": (1, lambda text: list(text.encode())),

@@ -1,6 +1,8 @@
 pub mod BusLemmas
 pub mod CanonicalLemmas
 pub mod EndLemmas
+pub mod FirstBreachLemmas
+pub mod KeepsLemmas
 pub mod LastCourses
 pub mod LastPlays
 pub mod LeadsLemmas
