@@ -2,8 +2,9 @@
 use Rattle.std.proofs.Common.{◌≡◌, Bool, true, false, ◌&&◌, List, [], ◌∷◌, refl, sym, ap, ◌∙◌, Option, Some, None}
 use Rattle.std.specs.Prelude.{is_none}
 use Rattle.std.specs.Option.{option_or}
-use Rattle.svm_model.specs.Audit.Breaches.{field_breach, first_by, first_in, keeps_at, keeps_by, known_after, known_of, translation_breach}
+use Rattle.svm_model.specs.Audit.Breaches.{field_breach, first_by, first_in, keeps_at, known_after, known_of, translation_breach}
 use Rattle.svm_model.specs.Turn.Course.{Told}
+use Rattle.svm_model.specs.Turn.Histories.{keeps_by}
 use Rattle.svm_model.specs.declared.audits.Stale.{Stale}
 
 none_or : (a b : Option Stale) → is_none (option_or a b) ≡ (is_none a && is_none b)

@@ -1,5 +1,5 @@
 -- A turn that ends its guest leaves the registers as before it, whatever trapped behind its row, at either level.
-use Rattle.std.proofs.Common.{◌≡◌, ℕ, Bool, true, false, List, [], Option, Some, None, Result, Ok, Err, refl, if◌then◌else◌, subst}
+use Rattle.std.proofs.Common.{◌≡◌, ℕ, Bool, true, false, List, [], Option, Some, None, Result, Ok, Err, ap, refl, if◌then◌else◌, subst}
 use Rattle.svm_model.specs.Machine.Apic.{pending}
 use Rattle.svm_model.specs.Instructions.Operands.{rax, whole_register}
 use Rattle.svm_model.specs.Machine.MovedVmcbs.{behind_flush, entered_turn, flush_of, moved_by, moved_outside, offered_to_l1, on_broken, on_mode, refused_vmrun, vmload, vmrun, vmsave}
@@ -27,7 +27,7 @@ use Rattle.svm_model.specs.declared.vcpus.Inside.{Inside}
 use Rattle.svm_model.specs.declared.vcpus.Vcpu.{Vcpu}
 use Rattle.svm_model.specs.declared.vmcbs.Field.TheVariants as f
 use Rattle.svm_model.specs.declared.windows.OutsideMemory.{OutsideMemory}
-use Rattle.svm_model.proofs.LastCourses.{IsFine, turn_last}
+use Rattle.svm_model.proofs.LastCourses.{IsFine, keeps_registers, turn_last}
 use Rattle.svm_model.proofs.LastPlays.{last_fine}
 
 -- what a turn's end owes to the registers that it began with
@@ -99,11 +99,15 @@ settled-before start way control facts t (Leaves exit delivering) e is fine = ex
 settled-before start way control facts t (Moves o next_rip) e is fine = moved-before start o way facts t (whole_register rax t.vcpu.registers) next_rip e (fine.registers refl)
 settled-before start way control facts t (Ends x) e is fine = λ f. fine.registers refl
 
+unsettled-before : (start : Vcpu) (cut : Bool) (way : Way) (control : Option Control) (facts : Facts) (t : Turned) (e : End) → IsFine start t.vcpu t.stepped → IsAsBefore start (if cut then t else settled way control facts t t.stepped) e
+unsettled-before start true way control facts t e fine = λ f. fine.registers (ap keeps_registers f)
+unsettled-before start false way control facts t e fine = settled-before start way control facts t t.stepped e refl fine
+
 under-before : (refused : Option ℕ) (control : Option Control) (facts : Facts) (board : Board) (memory : List ℕ) (vcpu : Vcpu) (e : End) → IsAsBefore vcpu (turned_under refused control facts board memory vcpu) e
 under-before refused control facts board memory vcpu e =
     let way = way_of refused control vcpu in
     let course = turn_course control facts vcpu (pending board.apic) in
-    settled-before vcpu way control facts (play way board memory [] course) _ e refl
+    unsettled-before vcpu (play way board memory [] course).board.cut way control facts (play way board memory [] course) e
     (last_fine vcpu way board memory [] course (turn_last control facts vcpu (pending board.apic)))
 
 by-before : (refused : Option ℕ) (facts : Facts) (board : Board) (memory : List ℕ) (vcpu : Vcpu) (vmcb : ℕ) (found : Result Fields OutsideMemory) (e : End) → IsAsBefore vcpu (turned_by refused facts board memory vcpu vmcb found) e

@@ -102,8 +102,3 @@ first_in told known = option_or (first_by field_breach told known) (first_by tra
 
 unfoldable pub keeps_at : List Told → Told → Bool
 keeps_at history told = is_none (field_breach told (known_of history)) && is_none (translation_breach told (known_of history))
-
--- all that a turn tells keeps a rule
-abbrev pub keeps_by : (List Told → Told → Bool) → List Told → List Told → Bool
-keeps_by rule history [] = true
-keeps_by rule history (told ∷ next) = rule history told && keeps_by rule (told ∷ history) next

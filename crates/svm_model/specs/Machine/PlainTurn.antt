@@ -1,6 +1,6 @@
 -- The turn of a vcpu on the plain machine, in L1 and in L2: the VMCB in use is read from memory, the course of the turn's work
 -- is played, and what it comes out to is done: a #VMEXIT, or a row that moves a VMCB.
-use Rattle.std.specs.Prelude.{ℕ, List, [], false, Option, Some, None, Result, Ok, Err}
+use Rattle.std.specs.Prelude.{ℕ, List, [], false, if◌then◌else◌, Option, Some, None, Result, Ok, Err}
 use Rattle.svm_model.specs.Machine.Apic.{pending}
 use Rattle.svm_model.specs.Turn.Control.{Control, space_of}
 use Rattle.svm_model.specs.Turn.Course.{Board, Found, Turned, Way}
@@ -29,8 +29,9 @@ settled way control facts turned (Ends e) = turned
 abbrev pub way_of : Option ℕ → Option Control → Vcpu → Way
 way_of refused control vcpu = record { space = space_of control vcpu; refused = refused }
 
+-- what a course comes out to is done, unless the turn was cut off in it, which goes no further
 abbrev pub settled_after : Way → Option Control → Facts → Turned → Turned
-settled_after way control facts turned = settled way control facts turned turned.stepped
+settled_after way control facts turned = if turned.board.cut then turned else settled way control facts turned turned.stepped
 
 abbrev pub turned_under : Option ℕ → Option Control → Facts → Board → List ℕ → Vcpu → Turned
 turned_under refused control facts board memory vcpu =

@@ -26,9 +26,13 @@ pub record Turn : Type 0 where
   pub denied : Option PortWrite
   pub told : List Told
 
-abbrev pub end_by : ℕ → ℕ → Stepped → Option Ended
-end_by index event (Ends end) = Some (record { end = end; vcpu = index; event = event })
-end_by index event _ = None
+abbrev pub end_of : ℕ → ℕ → Stepped → Option Ended
+end_of index event (Ends end) = Some (record { end = end; vcpu = index; event = event })
+end_of index event _ = None
+
+-- the end that comes in a turn; one that was cut off ends nobody
+abbrev pub end_by : Bool → ℕ → ℕ → Stepped → Option Ended
+end_by cut index event stepped = if cut then None else end_of index event stepped
 
 -- An interprocessor interrupt is accepted at once by each target: an NMI is pending, and other vectors go to the APIC.
 
@@ -59,7 +63,7 @@ with_sent (Some ipi) sender guest = spread ipi (targets_of ipi sender guest.apic
 abbrev pub guest_after : Guest → ℕ → ℕ → Turned → Guest
 guest_after guest index event turn = with_sent turn.board.sent index (record {
   memory = turn.memory;
-  ended = end_by index event turn.stepped;
+  ended = end_by turn.board.cut index event turn.stepped;
   vcpus = slice_set guest.vcpus index turn.vcpu;
   apics = slice_set guest.apics index turn.board.apic;
 })
@@ -71,7 +75,7 @@ abbrev pub turn_done : World → Guest → VcpuId → Turned → Turn
 turn_done w guest id turn = record {
   world = record w { guests = slice_set w.guests id.guest.0 (guest_after guest id.index w.event turn) };
   bus = turn.board.bus;
-  ended = end_by id.index w.event turn.stepped;
+  ended = end_by turn.board.cut id.index w.event turn.stepped;
   calls = turn.board.calls;
   denied = turn.board.denied;
   told = turn.told;
