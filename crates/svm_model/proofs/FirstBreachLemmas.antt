@@ -124,7 +124,7 @@ module _ (turn : TurnId) where
   made_tracks rules first known m t = record {
     here = known_here rules.known (after_making m (rules.known turn.vcpu)) ∙ ap (after_making m) t.here;
     first_is = ap (λ f. joined f (breach (stale_translation m (rules.known turn.vcpu).records))) t.first_is
-      ∙ ap (λ (k : Known). joined (breach first) (breach (stale_translation m k.records))) t.here ∙ joined_translation first m m.outcome (stale_leaf m known.records);
+        ∙ ap (λ (k : Known). joined (breach first) (breach (stale_translation m k.records))) t.here ∙ joined_translation first m m.outcome (stale_leaf m known.records);
   }
 
   flush_tracks : (rules : Rules) (first : Option Stale) (known : Known) (flush : Flush) → Tracks rules first known → Tracks (rules_after (Flushes turn.vcpu flush) rules) first (after_flush flush known)
@@ -171,9 +171,9 @@ module _ (turn : TurnId) where
   passes_track asid wp [] rules first known t = subst (λ f. Tracks rules f known) (sym (or_nothing first)) t
   passes_track asid wp (pass ∷ passed) rules first known t =
       subst (λ f. Tracks (passes_rules asid wp passed (rules_after (Makes (made_in turn (passing asid wp pass))) rules)) f (after_passes asid wp passed (after_making (passing asid wp pass) known)))
-        (or_or first (stale_translation (passing asid wp pass) known.records) (stale_pass asid wp passed (after_making (passing asid wp pass) known)))
-        (passes_track asid wp passed (rules_after (Makes (made_in turn (passing asid wp pass))) rules) (option_or first (stale_translation (passing asid wp pass) known.records))
-          (after_making (passing asid wp pass) known) (made_tracks rules first known (passing asid wp pass) t))
+      (or_or first (stale_translation (passing asid wp pass) known.records) (stale_pass asid wp passed (after_making (passing asid wp pass) known)))
+      (passes_track asid wp passed (rules_after (Makes (made_in turn (passing asid wp pass))) rules) (option_or first (stale_translation (passing asid wp pass) known.records))
+      (after_making (passing asid wp pass) known) (made_tracks rules first known (passing asid wp pass) t))
 
   -- translation breaches after what was first
   after_or : (first a field translation : Option Stale) → ((s : Stale) → a ≡ Some s → is_field s ≡ false) → after (option_or first a) field translation ≡ after first field (option_or a translation)
@@ -196,7 +196,7 @@ module _ (turn : TurnId) where
   pass_is asid wp [] known s e = grind (arith, e)
   pass_is asid wp (pass ∷ passed) known s e =
       or_is (stale_translation (passing asid wp pass) known.records) (stale_pass asid wp passed (after_making (passing asid wp pass) known))
-        (translation_is (passing asid wp pass) (passing asid wp pass).outcome (stale_leaf (passing asid wp pass) known.records)) (pass_is asid wp passed (after_making (passing asid wp pass) known)) s e
+      (translation_is (passing asid wp pass) (passing asid wp pass).outcome (stale_leaf (passing asid wp pass) known.records)) (pass_is asid wp passed (after_making (passing asid wp pass) known)) s e
 
   -- a field breach after what was first
   after_field_by : (f s : Stale) (field translation : Option Stale) (b : Bool) → is_field f ≡ b → is_field s ≡ true
@@ -228,9 +228,9 @@ module _ (turn : TurnId) where
       let translation = first_by translation_breach told (after_making m k) in
       ap (λ r. r.first) (passes_lead asid wp passed (Makes (made_in turn m) ∷ notices turn told) rules)
       ∙ first_after told (rules_after (Makes (made_in turn m)) between) (option_or (option_or first a) b) (after_making m k)
-          (made_tracks between (option_or first a) k m (passes_track asid wp passed rules first known t))
+      (made_tracks between (option_or first a) k m (passes_track asid wp passed rules first known t))
       ∙ ap breach (ap (λ o. after o field translation) (or_or first a b)
-        ∙ after_or first (option_or a b) field translation (or_is a b (pass_is asid wp passed known) (translation_is m m.outcome (stale_leaf m k.records))))
+      ∙ after_or first (option_or a b) field translation (or_is a b (pass_is asid wp passed known) (translation_is m m.outcome (stale_leaf m k.records))))
   first_after (Flushed flush ∷ told) rules first known t =
       first_after told (rules_after (Flushes turn.vcpu flush) rules) first (after_flush flush known) (flush_tracks rules first known flush t)
   first_after (Found vmcb entering found ∷ told) rules first known t =
@@ -251,7 +251,7 @@ module _ (turn : TurnId) where
   passes_known asid wp [] rules known h = h
   passes_known asid wp (pass ∷ passed) rules known h =
       passes_known asid wp passed (rules_after (Makes (made_in turn (passing asid wp pass))) rules) (after_making (passing asid wp pass) known)
-        (known_here rules.known (after_making (passing asid wp pass) (rules.known turn.vcpu)) ∙ ap (after_making (passing asid wp pass)) h)
+      (known_here rules.known (after_making (passing asid wp pass) (rules.known turn.vcpu)) ∙ ap (after_making (passing asid wp pass)) h)
 
   pub known_after_turn : (told : List Told) (rules : Rules) (known : Known) → rules.known turn.vcpu ≡ known → (rules_after_all (notices turn told) rules).known turn.vcpu ≡ known_after_all told known
   known_after_turn [] rules known h = h
@@ -260,7 +260,7 @@ module _ (turn : TurnId) where
       let between = passes_rules asid wp passed rules in
       ap (λ r. r.known turn.vcpu) (passes_lead asid wp passed (Makes (made_in turn m) ∷ notices turn told) rules)
       ∙ known_after_turn told (rules_after (Makes (made_in turn m)) between) (after_making m (after_passes asid wp passed known))
-        (known_here between.known (after_making m (between.known turn.vcpu)) ∙ ap (after_making m) (passes_known asid wp passed rules known h))
+      (known_here between.known (after_making m (between.known turn.vcpu)) ∙ ap (after_making m) (passes_known asid wp passed rules known h))
   known_after_turn (Flushed flush ∷ told) rules known h =
       known_after_turn told (rules_after (Flushes turn.vcpu flush) rules) (after_flush flush known) (known_here rules.known (after_flush flush (rules.known turn.vcpu)) ∙ ap (after_flush flush) h)
   known_after_turn (Found vmcb entering found ∷ told) rules known h =
