@@ -5,7 +5,7 @@
 //! walk. What it keeps stands for a history that recalls it, and its rule is that an access for which a leaf is recalled
 //! still finds that very leaf and sets no bit (`specs/Recalls.antt`). The crate stands on the page walk and on the executor
 //! of turns. A layer above uses `OneCopy` as a translator, and that after `drop_copy`, as at the start of each event, it
-//! stands for every history; `take_turn` is such a turn.
+//! stands for every history; `take_turn` is a turn behind it.
 #![tactic(auto)]
 
 mod kept;

@@ -1,5 +1,5 @@
 // The translator that keeps one copy.
-ghost use Rattle.std.specs.Prelude.{◌≡◌, List, ◌∷◌, Bool, None, true, false};
+ghost use Rattle.std.specs.Prelude.{◌≡◌, List, ◌∷◌, Bool, None, true};
 ghost use Rattle.svm_model.specs.Turn.Course.{Told, Accessed};
 ghost use Rattle.svm_model.specs.Memory.NestedPaging.{as_nested};
 ghost use Rattle.svm_model.specs.Memory.PageTables.{HasFrame};
@@ -68,11 +68,15 @@ fn refill(kept: &mut Option<Kept>, asid: u32, access: Access, walked: Walked)
 impl Translator for OneCopy {
     ghost stands = { λ c history. Stands c.kept history };
 
+    ghost tells = { λ _ _ _. Unit {0} };
+
     ghost copies = { true };
 
     ghost rule = { keeps };
 
-    ghost refuses = { false };
+    ghost refusals = { λ _. 0 };
+
+    ghost name = { λ _. 0 };
 
     ghost cost = { 28 };
 

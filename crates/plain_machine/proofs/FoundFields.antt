@@ -1,5 +1,5 @@
 -- Where the fields of a VMCB are found its page is there.
-use Rattle.std.proofs.Common.{◌≡◌, ◌+◌, ◌≤◌, ℕ, List, Bool, true, false, nat_le, length, refl, arith}
+use Rattle.std.proofs.Common.{◌≡◌, ◌∙◌, ap, ◌+◌, ◌≤◌, ℕ, List, Bool, true, false, nat_le, length, refl, arith}
 use Rattle.std.proofs.lemmas.Bool.Decides.{nat_tests}
 use Rattle.std.specs.Prelude.{if◌then◌else◌, Ok, Err, max}
 use Rattle.svm_model.specs.Memory.Bytes.{IsWithin, guest_of}
@@ -7,6 +7,7 @@ use Rattle.svm_model.specs.Svm.Vmcb.{Fields, fields_at, fields_in}
 use Rattle.svm_model.specs.declared.windows.GuestWindow.{GuestWindow}
 use Rattle.svm_model.specs.declared.windows.OutsideMemory.{OutsideMemory}
 use Rattle.svm_model.proofs.WindowLemmas.{length-guest_of}
+use Rattle.svm_switch.proofs.LeftLemmas.{size-found as size-in}
 
 pub record AreFound (memory : List ℕ) (vmcb : ℕ) (v : Fields) : Type 0 where
   pub page : vmcb + 4096 ≤ length memory
@@ -37,4 +38,7 @@ page-found w bytes vmcb v h e =
 pub is-found : (memory : List ℕ) (vmcb : ℕ) (v : Fields) → Ok v ≡ fields_at memory vmcb → v ≡ fields_in memory vmcb
 is-found memory vmcb v e = (are_found memory vmcb v (cc)).is
 
-pub ruleset found = (page-found, is-found)
+pub size-found : (memory : List ℕ) (vmcb : ℕ) (v : Fields) → Ok v ≡ fields_at memory vmcb → length v.values ≡ 86
+size-found memory vmcb v e = ap (λ (w : Fields). length w.values) (is-found memory vmcb v e) ∙ size-in memory vmcb
+
+pub ruleset found = (page-found, is-found, size-found)

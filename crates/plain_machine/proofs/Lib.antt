@@ -1,9 +1,13 @@
 pub mod ChangeLemmas
+pub mod CutLemmas
 pub mod FoundFields
+pub mod GrantedLemmas
 pub mod GuestTurnLemmas
 pub mod HeedLemmas
 pub mod LookupLemmas
 pub mod MarkLemmas
+pub mod NoticeLemmas
+pub mod Noticed
 pub mod OpeningLemmas
 pub mod OtherLemmas
 pub mod PlacingLemmas

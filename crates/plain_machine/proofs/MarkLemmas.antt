@@ -10,7 +10,7 @@ use Rattle.svm_model.proofs.WindowLemmas.{length-guest_of}
 use Rattle.plain_machine.proofs.Rows.{in_row-slot, in_row-within}
 use Rattle.plain_machine.proofs.Worlds.{guest_there}
 use Rattle.plain_machine.specs.Machines.{Machine, Marks}
-use Rattle.plain_machine.specs.Marks.{AreTold, first_page, mark_from, marks_in}
+use Rattle.plain_machine.specs.Marks.{ChangesAreMarked, first_page, mark_from, marks_in}
 use Rattle.plain_machine.specs.Slots.{Kept, Layout, IsSlot, AreInRow, guests_at, layout, layouts}
 
 -- the memory of a guest that is kept, by its layout
@@ -70,21 +70,21 @@ page-kept w old new page even marked clear = by-place (leb_tells w.size (4096 * 
         page-inside w new.bytes page even.base whole ∙ (marked.unmarked (w.base / 4096 + page) clear).1 ∙ sym (page-inside w old.bytes page even.base whole)
 
 -- by the layouts, which are the same before and behind a change
-told-by : (old new : Host) (o : Option Layout) (page : ℕ) → ((l : Layout) → o ≡ Some l → IsPaged l.window) → AreMarked old new → mark_in new o page ≡ false →
+marked-by : (old new : Host) (o : Option Layout) (page : ℕ) → ((l : Layout) → o ≡ Some l → IsPaged l.window) → AreMarked old new → mark_in new o page ≡ false →
     (mark_in old o page ≡ false) × (page_at (memory_by new.bytes o) page ≡ page_at (memory_by old.bytes o) page)
-told-by old new None page even marked clear = absurd (cc)
-told-by old new (Some l) page even marked clear =
+marked-by old new None page even marked clear = absurd (cc)
+marked-by old new (Some l) page even marked clear =
     ((marked.unmarked (l.window.base / 4096 + page) clear).0, page-kept l.window old new page (even l refl) marked clear)
 
 -- machines over memories of which the one came of the other
-pub told : (old new : Host) (s t : List Kept) (a b : Machine) → AreInRow (length old.bytes) 0 (layouts s) → layouts t ≡ layouts s → AreMarked old new →
-    a.world.guests ≡ guests_at old.bytes s → a.marks ≡ marks_in old (layouts s) → b.world.guests ≡ guests_at new.bytes t → b.marks ≡ marks_in new (layouts t) → AreTold a b
-told old new s t a b row same marked guests_a marks_a guests_b marks_b = record {
+pub marked-guests : (old new : Host) (s t : List Kept) (a b : Machine) → AreInRow (length old.bytes) 0 (layouts s) → layouts t ≡ layouts s → AreMarked old new →
+    a.world.guests ≡ guests_at old.bytes s → a.marks ≡ marks_in old (layouts s) → b.world.guests ≡ guests_at new.bytes t → b.marks ≡ marks_in new (layouts t) → ChangesAreMarked a b
+marked-guests old new s t a b row same marked guests_a marks_a guests_b marks_b = record {
   unmarked = λ guest page clear.
       let o = slice_get (layouts s) guest in
       let there : slice_get (layouts t) guest ≡ o = ap (λ (ls : List Layout). slice_get ls guest) same in
       let at : Marks → Bool = λ m. mark_from m.is_changed m.pages (slice_get m.firsts guest) page in
-      let k = told-by old new o page (λ l e. paged (length old.bytes) 0 (layouts s) guest l refl row e) marked
+      let k = marked-by old new o page (λ l e. paged (length old.bytes) 0 (layouts s) guest l refl row e) marked
       (sym (ap at marks_b ∙ mark-layouts new (layouts t) guest page ∙ ap (λ (x : Option Layout). mark_in new x page) there) ∙ clear) in (
         ap at marks_a ∙ mark-layouts old (layouts s) guest page ∙ k.0,
         ap (λ (gs : List Guest). page_at (memory_of (slice_get gs guest)) page) guests_b
@@ -95,12 +95,12 @@ told old new s t a b row same marked guests_a marks_a guests_b marks_b = record 
 }
 
 -- the same of slots that were written in the place of others
-pub told-written : (old new : Host) (s t : List Kept) (a b : Machine) (n : ℕ) → length t ≡ n → AreInRow (length old.bytes) 0 (layouts s) → layouts t ≡ layouts s → AreMarked old new →
+pub marked-written : (old new : Host) (s t : List Kept) (a b : Machine) (n : ℕ) → length t ≡ n → AreInRow (length old.bytes) 0 (layouts s) → layouts t ≡ layouts s → AreMarked old new →
     a.world.guests ≡ guests_at old.bytes s → a.marks ≡ marks_in old (layouts s) →
-    b.world.guests ≡ guests_at new.bytes (take n (t ++ drop (length t) s)) → b.marks ≡ marks_in new (layouts (take n (t ++ drop (length t) s))) → AreTold a b
-told-written old new s t a b n long row same marked guests_a marks_a guests_b marks_b =
+    b.world.guests ≡ guests_at new.bytes (take n (t ++ drop (length t) s)) → b.marks ≡ marks_in new (layouts (take n (t ++ drop (length t) s))) → ChangesAreMarked a b
+marked-written old new s t a b n long row same marked guests_a marks_a guests_b marks_b =
     let is : take n (t ++ drop (length t) s) ≡ t = take_at t (drop (length t) s) n long in
-    told old new s t a b row same marked guests_a marks_a (guests_b ∙ ap (guests_at new.bytes) is) (marks_b ∙ ap (λ (ss : List Kept). marks_in new (layouts ss)) is)
+    marked-guests old new s t a b row same marked guests_a marks_a (guests_b ∙ ap (guests_at new.bytes) is) (marks_b ∙ ap (λ (ss : List Kept). marks_in new (layouts ss)) is)
 
 -- A guest by its slot: its window lies within the memory, and its memory is that window.
 pub record InSlot (bytes : List ℕ) (guests : List Guest) (guest : ℕ) (slot : Kept) : Type 0 where
@@ -122,18 +122,18 @@ in_slot bytes slots guests guest slot row same there =
       size = ap length is ∙ length-guest_of slot.window bytes fits;
     }
 
-pub told-itself : (a b : Machine) → b.world.guests ≡ a.world.guests → b.marks ≡ a.marks → AreTold a b
-told-itself a b guests marks = record {
+pub marked-itself : (a b : Machine) → b.world.guests ≡ a.world.guests → b.marks ≡ a.marks → ChangesAreMarked a b
+marked-itself a b guests marks = record {
   unmarked = λ guest page clear.
       let at : Marks → Bool = λ m. mark_from m.is_changed m.pages (slice_get m.firsts guest) page in
       (sym (ap at marks) ∙ clear, ap (λ (gs : List Guest). page_at (memory_of (slice_get gs guest)) page) guests);
 }
 
-pub told-then : {a b c : Machine} → AreTold a b → AreTold b c → AreTold a c
-told-then h k = record {
+pub marked-then : {a b c : Machine} → ChangesAreMarked a b → ChangesAreMarked b c → ChangesAreMarked a c
+marked-then h k = record {
   unmarked = λ guest page clear.
       let mid = k.unmarked guest page clear in
       ((h.unmarked guest page mid.0).0, mid.1 ∙ (h.unmarked guest page mid.0).1);
 }
 
-pub ruleset marks = (told-itself, told-then)
+pub ruleset marks = (marked-itself, marked-then)

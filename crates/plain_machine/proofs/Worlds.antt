@@ -1,5 +1,5 @@
 -- The world of the guests that are kept: its shape, who is named in it, and the turn of a vcpu.
-use Rattle.std.proofs.Common.{◌≡◌, ◌∙◌, ℕ, zero, suc, ◌+◌, ◌≤◌, ◌<◌, List, [], ◌∷◌, ◌++◌, take, drop, arith, refl, Option, Some, None, length, map, ap, sym, subst, slice_get, slice_set, IfSome}
+use Rattle.std.proofs.Common.{◌≡◌, ◌∙◌, ℕ, zero, suc, ◌+◌, ◌≤◌, ◌<◌, List, [], ◌∷◌, ◌++◌, take, drop, arith, refl, Option, Some, None, inl, inr, length, map, ap, sym, subst, slice_get, slice_set, IfSome}
 use Rattle.std.specs.Option.{option_map}
 use Rattle.std.proofs.lemmas.List.{length-map, take_at}
 use Rattle.std.proofs.lemmas.Option.{slice_get-map}
@@ -14,6 +14,7 @@ use Rattle.svm_model.specs.declared.names.Ended.{Ended}
 use Rattle.svm_model.specs.declared.names.VcpuId.{VcpuId}
 use Rattle.svm_model.specs.declared.vcpus.Vcpu.{Vcpu}
 use Rattle.svm_model.proofs.WindowLemmas.{length-guest_of}
+use Rattle.plain_machine.specs.Cuts.{IsCutBy}
 use Rattle.plain_machine.specs.GuestTurns.{GuestTurn, guest_turn, with_live_in, with_vcpu_in, with_apic_in, IsOutIn}
 use Rattle.plain_machine.specs.Slots.{Kept, Layout, layout, layouts, guest_at, guests_at, counts, AreInRow, IsSlot}
 use Rattle.plain_machine.specs.declared.turns.Moment.{Moment}
@@ -115,21 +116,23 @@ pub record InWorld (turn : Turn) (w : World) (place : ℕ) (t : GuestTurn) : Typ
   pub ended_is : turn.ended ≡ t.ended
   pub calls_are : turn.calls ≡ t.calls
   pub denied_is : turn.denied ≡ t.denied
+  pub told_is : turn.told ≡ t.told
 
 nothing : (w : World) (bus : Bus) (place : ℕ) (guest : Guest) → slice_get w.guests place ≡ Some guest →
-    InWorld (record { world = w; bus = bus; ended = None; calls = 0; denied = None; told = [] }) w place (record { guest = guest; bus = bus; ended = None; calls = 0; denied = None })
+    InWorld (record { world = w; bus = bus; ended = None; calls = 0; denied = None; told = [] }) w place (record { guest = guest; bus = bus; ended = None; calls = 0; denied = None; told = [] })
 nothing w bus place guest there = record {
   world_is = ap (λ (gs : List Guest). record w { guests = gs }) (sym (set-same w.guests place guest there));
   bus_is = refl;
   ended_is = refl;
   calls_are = refl;
   denied_is = refl;
+  told_is = refl;
 }
 
 by_apic : (refused : Option ℕ) (w : World) (bus : Bus) (id : VcpuId) (guest : Guest) (vcpu : Vcpu) (o : Option Apic) → slice_get w.guests id.guest.0 ≡ Some guest →
     InWorld (with_apic refused w bus guest id vcpu o) w id.guest.0 (with_apic_in refused (moment_of w id) bus guest vcpu o)
 by_apic refused w bus id guest vcpu None there = nothing w bus id.guest.0 guest there
-by_apic refused w bus id guest vcpu (Some apic) there = record { world_is = refl; bus_is = refl; ended_is = refl; calls_are = refl; denied_is = refl }
+by_apic refused w bus id guest vcpu (Some apic) there = record { world_is = refl; bus_is = refl; ended_is = refl; calls_are = refl; denied_is = refl; told_is = refl }
 
 by_vcpu : (refused : Option ℕ) (w : World) (bus : Bus) (id : VcpuId) (guest : Guest) (o : Option Vcpu) → slice_get w.guests id.guest.0 ≡ Some guest →
     InWorld (with_vcpu refused w bus guest id o) w id.guest.0 (with_vcpu_in refused (moment_of w id) bus guest o)
@@ -156,6 +159,11 @@ out_in_world call w bus id guest there out = record {
   granted = (in_world None w bus id guest there).bus_is ∙ out.granted;
   last = (in_world None w bus id guest there).calls_are ∙ out.last;
 }
+
+pub cut_in_world : (call : ℕ) (w : World) (bus new : Bus) (id : VcpuId) (guest : Guest) (refusals later : ℕ) → slice_get w.guests id.guest.0 ≡ Some guest →
+    IsCutBy (IsOutIn call (moment_of w id) bus guest) (Unit {0}) bus new refusals later → IsCutBy (IsOut call w bus id) (Unit {0}) bus new refusals later
+cut_in_world call w bus new id guest refusals later there (inl out) = inl (out_in_world call w bus id guest there out.0, out.1)
+cut_in_world call w bus new id guest refusals later there (inr unheard) = inr unheard
 
 pub slot_there : (slots : List Kept) (i : ℕ) → i < length slots → (slot : Kept) × (slice_get slots i ≡ Some slot)
 slot_there [] i h = absurd (omega (arith, h))

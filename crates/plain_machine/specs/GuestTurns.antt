@@ -1,11 +1,11 @@
 -- The turn of a vcpu in its guest alone.
-use Rattle.std.specs.Prelude.{◌≡◌, ℕ, ◌+◌, ◌%◌, ◌^◌, Option, Some, None, Result, Ok, Err, slice_get}
+use Rattle.std.specs.Prelude.{◌≡◌, ℕ, ◌+◌, ◌%◌, ◌^◌, List, [], Option, Some, None, Result, Ok, Err, slice_get}
 use Rattle.svm_model.specs.Machine.Apic.{Apic}
 use Rattle.svm_model.specs.Machine.Bus.{Bus, bus_after_write}
 use Rattle.svm_model.specs.Machine.Guest.{Guest}
 use Rattle.svm_model.specs.Machine.PlainTurn.{turned}
 use Rattle.svm_model.specs.Machine.Turns.{board_of, end_by, guest_after}
-use Rattle.svm_model.specs.Turn.Course.{Turned}
+use Rattle.svm_model.specs.Turn.Course.{Told, Turned}
 use Rattle.svm_model.specs.declared.names.Ended.{Ended}
 use Rattle.svm_model.specs.declared.names.RunEnd.{RunEnd}
 use Rattle.svm_model.specs.declared.ports.PortWrite.{PortWrite}
@@ -14,14 +14,15 @@ use Rattle.svm_model.specs.declared.vcpus.Vcpu.{Vcpu}
 use Rattle.plain_machine.specs.declared.turns.Cut.{Cut}
 use Rattle.plain_machine.specs.declared.turns.Moment.{Moment}
 
--- what a turn makes of its guest and of the bus: the end that came in it, how many of its outward calls were granted, and the
--- write to a port that was refused in it
+-- what a turn makes of its guest and of the bus: the end that came in it, how many of its outward calls were granted, the write
+-- to a port that was refused in it, and what it tells
 pub record GuestTurn : Type 0 where
   pub guest : Guest
   pub bus : Bus
   pub ended : Option Ended
   pub calls : ℕ
   pub denied : Option PortWrite
+  pub told : List Told
 
 -- what a turn of the vcpu knows
 abbrev pub facts_in : Moment → Vcpu → Apic → Facts
@@ -35,15 +36,16 @@ facts_in m vcpu apic = record {
 }
 
 abbrev pub no_turn_in : Bus → Guest → GuestTurn
-no_turn_in bus guest = record { guest = guest; bus = bus; ended = None; calls = 0; denied = None }
+no_turn_in bus guest = record { guest = guest; bus = bus; ended = None; calls = 0; denied = None; told = [] }
 
 abbrev pub turn_done_in : Moment → Guest → Turned → GuestTurn
 turn_done_in m guest turn = record {
   guest = guest_after guest m.vcpu.index m.event turn;
   bus = turn.board.bus;
-  ended = end_by m.vcpu.index m.event turn.stepped;
+  ended = end_by turn.board.cut m.vcpu.index m.event turn.stepped;
   calls = turn.board.calls;
   denied = turn.board.denied;
+  told = turn.told;
 }
 
 abbrev pub with_apic_in : Option ℕ → Moment → Bus → Guest → Vcpu → Option Apic → GuestTurn

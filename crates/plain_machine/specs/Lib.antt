@@ -1,3 +1,4 @@
+pub mod Cuts
 pub mod GuestTurns
 pub mod Machines
 pub mod Marks

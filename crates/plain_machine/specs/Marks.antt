@@ -26,5 +26,5 @@ abbrev pub page_in : Machine → ℕ → ℕ → List ℕ
 page_in machine guest page = page_at (memory_of (slice_get machine.world.guests guest)) page
 
 -- no page has changed that is not marked, and no mark is gone
-pub record AreTold (old new : Machine) : Type 0 where
+pub record ChangesAreMarked (old new : Machine) : Type 0 where
   pub unmarked : (guest page : ℕ) → is_written new guest page ≡ false → (is_written old guest page ≡ false) × (page_in new guest page ≡ page_in old guest page)

@@ -1,12 +1,15 @@
 -- What the executor's turn of a vcpu gives.
-use Rattle.std.specs.Prelude.{◌≡◌, ℕ, ◌+◌, ◌≤◌, Bool, true, false, List, [], Option, Some, None, IfSome}
+use Rattle.std.specs.Prelude.{◌≡◌, ℕ, ◌+◌, ◌≤◌, Bool, true, false, List, [], Option, Some, None, IfSome, is_some}
+use Rattle.svm_model.specs.Audit.WatchCalls.{Notice, notices}
 use Rattle.svm_model.specs.Machine.Apic.{pending}
 use Rattle.svm_model.specs.Machine.Bus.{Bus, bus_after_write}
 use Rattle.svm_model.specs.Machine.PlainTurn.{way_of}
 use Rattle.svm_model.specs.Turn.Control.{Control}
-use Rattle.svm_model.specs.Turn.Course.{Board, Turned, Way}
+use Rattle.svm_model.specs.Turn.Course.{Board, Told, Turned, Way}
 use Rattle.svm_model.specs.Turn.Play.{play}
 use Rattle.svm_model.specs.Turn.Work.{turn_course}
+use Rattle.svm_model.specs.declared.audits.TurnId.{TurnId}
+use Rattle.svm_model.specs.declared.names.RunEnd.{RunEnd}
 use Rattle.svm_model.specs.declared.ports.PortWrite.{PortWrite}
 use Rattle.svm_model.specs.declared.turns.Facts.{Facts}
 use Rattle.svm_model.specs.declared.turns.Space.{Space}
@@ -14,6 +17,9 @@ use Rattle.svm_model.specs.declared.turns.Stepped.{Stepped}
 use Rattle.svm_model.specs.declared.turns.Stepped.TheVariants.{Went, Leaves, Moves, Ends}
 use Rattle.svm_model.specs.declared.vcpus.Inside.{Inside}
 use Rattle.svm_model.specs.declared.vcpus.Vcpu.{Vcpu}
+use Rattle.turn_exec.specs.Plays.{refused_at}
+use Rattle.turn_exec.specs.declared.guest_turn.Outward.{Outward}
+use Rattle.watch.specs.Leads.{Leads}
 
 -- memory, what stands about the vcpu, the vcpu and how it comes out are those of the turn
 pub record Gives (turned : Turned) (memory : List ℕ) (board : Board) (vcpu : Vcpu) (stepped : Stepped) : Type 0 where
@@ -51,6 +57,28 @@ IsInside vmcb (Some i) = i.kept.vmcb ≡ vmcb
 abbrev pub IsKeptIn : ℕ → Option Inside → Type 0
 IsKeptIn size inside = IfSome inside (λ i. i.kept.vmcb + 4096 ≤ size)
 
--- no outward call is refused
-abbrev pub granting : Space → Way
-granting space = record { space = space; refused = None }
+-- What comes of outward calls.
+
+-- what stands about the vcpu then
+abbrev pub heard_board : Board → Outward → Board
+heard_board board outward = record board { calls = outward.calls; cut = is_some outward.refused }
+
+-- the way of a turn whose calls came to this
+abbrev pub way_by : Space → Outward → Way
+way_by space outward = record { space = space; refused = refused_at outward.refused outward.calls }
+
+-- none was refused
+abbrev pub IsGoing : Outward → Type 0
+IsGoing outward = outward.refused ≡ None
+
+-- what more calls came to: none is granted behind a refusal
+abbrev pub LaterFrom : Option RunEnd → ℕ → Outward → Type 0
+LaterFrom None calls last = calls ≤ last.calls
+LaterFrom (Some end) calls last = (last.refused ≡ Some end) × (last.calls ≡ calls)
+
+abbrev pub Later : Outward → Outward → Type 0
+Later before last = LaterFrom before.refused before.calls last
+
+-- Unless the turn was cut off, one who watches was told this of it.
+abbrev pub Adds : {W : Type 0} → (W → Notice → W → Type 0) → TurnId → Option RunEnd → List Told → W → W → Type 0
+Adds tells turn refused told old new = refused ≡ None → Leads tells old (notices turn told) new

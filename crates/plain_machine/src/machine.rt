@@ -6,13 +6,16 @@ ghost use Rattle.svm_model.specs.Machine.Guest.{level_in};
 ghost use Rattle.svm_model.specs.Formats.LawfulImages.{IsLawfulImage};
 ghost use Rattle.svm_model.specs.Formats.Trace.{memory_of};
 ghost use Rattle.svm_model.specs.Machine.Events.{event_of, plain_event, placed, changed_guest, guest_with_irq, guest_with_nmi, next_event, with_timers};
-ghost use Rattle.svm_model.specs.Machine.Runs.{reached, reached_of, EndsStay, HandsOver, HandsOverOf, IsOut};
+ghost use Rattle.svm_model.specs.Audit.WatchCalls.{event_notices, notices, told_notices, turn_in as turn_in_event};
+ghost use Rattle.svm_model.specs.Machine.Runs.{reached, reached_of, EndsStay, HandsOverOf, IsOut};
 ghost use Rattle.svm_model.specs.Machine.Shapes.{world_shape, image_shape, IsNamed, IsVcpu, IsWellFormed};
 ghost use Rattle.svm_model.specs.Machine.Turns.{plain_turn, turn_of};
 ghost use Rattle.svm_model.specs.Machine.World.{world_of};
 ghost use Rattle.port_bus.specs.Causes.{Blames, NoneFell};
+ghost use Rattle.watch.specs.Leads.{Leads};
+ghost use Rattle.plain_machine.specs.Cuts.{bus_reached, bus_reached_of, IsCut, IsCutBy, IsCutOf};
 ghost use Rattle.plain_machine.specs.Machines.{apic_in, vcpu_in, guest_in};
-ghost use Rattle.plain_machine.specs.Marks.{AreTold, is_written};
+ghost use Rattle.plain_machine.specs.Marks.{ChangesAreMarked, is_written};
 ghost use Rattle.plain_machine.specs.Others.{OthersStay};
 ghost use Rattle.plain_machine.specs.Reads.{is_run};
 
@@ -23,6 +26,7 @@ use crate::placing::{none_placed, place_on, placed_at};
 use crate::slots::Slot;
 use crate::timers::ring_guests;
 use crate::turns::{Cut, Moment, turn_in};
+use crate::watching::Walking;
 use apic_state::Apic;
 use host_memory::{HostMemory, OutsideMemory, Steps};
 use image_format::Image;
@@ -31,8 +35,9 @@ use row_table::KeptRows;
 use std::alloc::Global;
 use std::marker::Model;
 use std::sync::ledger::Ledger;
-use svm_model::{RunEnd, Vcpu};
+use svm_model::{RunEnd, TurnId, Vcpu};
 use vm_names::{CpuId, Effect, Ended, Event, GuestId, NoMemory, Registers, VcpuId};
+use watch::Watch;
 
 /// The plain machine. In clauses it is the world that it runs, whether it is stopped, and which pages of its guests are marked
 /// as written. The bus of port devices stands beside it.
@@ -84,8 +89,9 @@ const NOTHING: Effect = Effect {
 impl PlainMachine {
     /// A turn of a vcpu. One whose guest was ended does nothing.
     #[tactic(auto, using(crate::proofs::Worlds::worlds))]
-    fn turn<B: Ports, L: Ledger>(
+    fn turn<'w, W: Watch, B: Ports, L: Ledger>(
         &mut self,
+        walking: &mut Walking<'w, W>,
         vcpu: VcpuId,
         bus: &mut B,
         steps: &mut Steps<L>,
@@ -95,14 +101,17 @@ impl PlainMachine {
         ensures bus { OnOk result (B.bus bus.new ≡ (plain_turn self.old.world (B.bus bus.old) vcpu).bus) }
         ensures ended { IfOk result (λ ended. ended ≡ (plain_turn self.old.world (B.bus bus.old) vcpu).ended) }
         ensures reached { IfErr result (λ cut. self.new.world ≡ (turn_of (Some cut.call) self.old.world (B.bus bus.old) vcpu).world) }
-        ensures out { IfErr result (λ cut. IsOut cut.call self.old.world (B.bus bus.old) vcpu) }
-        ensures kept { OnErr result (B.bus bus.new ≡ B.bus bus.old) }
+        ensures heard { OnOk result (Leads W.tells walking.old.watch.now (notices walking.old.turn (plain_turn self.old.world (B.bus bus.old) vcpu).told) walking.new.watch.now) }
+        ensures bus_reached { IfErr result (λ cut. B.bus bus.new ≡ (turn_of (Some cut.call) self.old.world (B.bus bus.old) vcpu).bus) }
+        ensures cut { IfErr result (λ cut. IsCutBy (IsOut cut.call self.old.world (B.bus bus.old) vcpu) (Unit {0}) (B.bus bus.old) (B.bus bus.new) (W.refusals walking.old.watch.now) (W.refusals walking.new.watch.now)) }
+        ensures none_refused { W.refusals walking.old.watch.now ≤ W.refusals walking.new.watch.now }
+        ensures name { walking.new.watch.ghost_name ≡ walking.old.watch.ghost_name }
         ensures blamed { IfErr result (λ cut. Blames cut.end (B.faults bus.old) (B.faults bus.new)) }
         ensures none_fell { NoneFell (B.faults bus.old) (B.faults bus.new) }
         ensures shape { world_shape self.new.world ≡ world_shape self.old.world }
         ensures number { self.new.world.event ≡ self.old.world.event }
         ensures stopped { self.new.stopped ≡ self.old.stopped }
-        ensures told { AreTold self.old self.new }
+        ensures marked { ChangesAreMarked self.old self.new }
         ensures steps { steps.new ≤ steps.old + 6368 }
         ensures later { steps.old ≤ steps.new }
     {
@@ -112,6 +121,7 @@ impl PlainMachine {
             features: self.features,
         };
         turn_in(
+            walking,
             &mut self.memory,
             &mut self.guests,
             bus,
@@ -126,7 +136,7 @@ impl PlainMachine {
     fn ring_timers(&mut self)
         ensures timers { self.new.world ≡ with_timers self.old.world }
         ensures stopped { self.new.stopped ≡ self.old.stopped }
-        ensures told { AreTold self.old self.new }
+        ensures marked { ChangesAreMarked self.old self.new }
         ensures shape { world_shape self.new.world ≡ world_shape self.old.world }
         ensures number { self.new.world.event ≡ self.old.world.event }
     {
@@ -148,7 +158,7 @@ impl PlainMachine {
         requires { IsNamed (world_shape self.old.world) (Event.Irq vcpu vector) }
         ensures accepted { self.new.world ≡ changed_guest self.old.world vcpu (guest_with_irq vcpu.index vector) }
         ensures stopped { self.new.stopped ≡ self.old.stopped }
-        ensures told { AreTold self.old self.new }
+        ensures marked { ChangesAreMarked self.old self.new }
         ensures shape { world_shape self.new.world ≡ world_shape self.old.world }
         ensures number { self.new.world.event ≡ self.old.world.event }
     {
@@ -161,7 +171,7 @@ impl PlainMachine {
         requires { IsNamed (world_shape self.old.world) (Event.Nmi vcpu) }
         ensures pending { self.new.world ≡ changed_guest self.old.world vcpu (guest_with_nmi vcpu.index) }
         ensures stopped { self.new.stopped ≡ self.old.stopped }
-        ensures told { AreTold self.old self.new }
+        ensures marked { ChangesAreMarked self.old self.new }
         ensures shape { world_shape self.new.world ≡ world_shape self.old.world }
         ensures number { self.new.world.event ≡ self.old.world.event }
     {
@@ -187,11 +197,12 @@ impl PlainMachine {
     }
 
     /// A turn of the vcpu that is placed on the processor, or nothing.
-    #[tactic(auto, using(port_bus::proofs::Counts::counts, crate::proofs::MarkLemmas::marks), unfolding(svm_model::specs::Machine::Events::event_of, svm_model::specs::Machine::Runs::reached_of, svm_model::specs::Machine::Runs::HandsOverOf))]
-    fn run<B: Ports, L: Ledger>(
+    #[tactic(auto, using(port_bus::proofs::Counts::counts, crate::proofs::MarkLemmas::marks), unfolding(svm_model::specs::Machine::Events::event_of, svm_model::specs::Machine::Runs::reached_of, svm_model::specs::Machine::Runs::HandsOverOf, crate::specs::Cuts::bus_reached_of, crate::specs::Cuts::HasTurn))]
+    fn run<W: Watch, B: Ports, L: Ledger>(
         &mut self,
         cpu: CpuId,
         bus: &mut B,
+        watch: &mut W,
         steps: &mut Steps<L>,
     ) -> Result<Effect, Cut>
         requires named { IsNamed (world_shape self.old.world) (Event.Run cpu) }
@@ -199,15 +210,17 @@ impl PlainMachine {
         ensures world { OnOk result (self.new.world ≡ (event_of self.old.world (B.bus bus.old) (Event.Run cpu)).world) }
         ensures bus { OnOk result (B.bus bus.new ≡ (event_of self.old.world (B.bus bus.old) (Event.Run cpu)).bus) }
         ensures effect { IfOk result (λ effect. effect ≡ (event_of self.old.world (B.bus bus.old) (Event.Run cpu)).effect) }
+        ensures told { OnOk result (Leads W.tells watch.old (told_notices (turn_in_event self.old.world (Event.Run cpu) (event_of self.old.world (B.bus bus.old) (Event.Run cpu)).effect.vcpu) (event_of self.old.world (B.bus bus.old) (Event.Run cpu)).told) watch.new) }
         ensures reached { IfErr result (λ cut. self.new.world ≡ reached_of cut.call self.old.world (B.bus bus.old) (Event.Run cpu)) }
-        ensures hands_over { IfErr result (λ cut. HandsOverOf cut.call self.old.world (B.bus bus.old) (Event.Run cpu)) }
-        ensures kept { OnErr result (B.bus bus.new ≡ B.bus bus.old) }
+        ensures bus_reached { IfErr result (λ cut. B.bus bus.new ≡ bus_reached_of cut.call self.old.world (B.bus bus.old) (Event.Run cpu)) }
+        ensures cut { IfErr result (λ cut. IsCutOf cut.call self.old.world (B.bus bus.old) (Event.Run cpu) (B.bus bus.new) (W.refusals watch.old) (W.refusals watch.new)) }
+        ensures none_refused { W.refusals watch.old ≤ W.refusals watch.new }
         ensures blamed { IfErr result (λ cut. Blames cut.end (B.faults bus.old) (B.faults bus.new)) }
         ensures none_fell { NoneFell (B.faults bus.old) (B.faults bus.new) }
         ensures shape { world_shape self.new.world ≡ world_shape self.old.world }
         ensures number { OnOk result (self.new.world.event ≡ self.old.world.event + 1) }
         ensures stopped { self.new.stopped ≡ self.old.stopped }
-        ensures told { AreTold self.old self.new }
+        ensures marked { ChangesAreMarked self.old self.new }
         ensures steps { steps.new ≤ steps.old + 6368 }
         ensures later { steps.old ≤ steps.new }
     {
@@ -215,7 +228,13 @@ impl PlainMachine {
             self.finish_event();
             return Ok(NOTHING);
         };
-        let ended = match self.turn(vcpu, bus, steps) {
+        let turn = TurnId {
+            vcpu,
+            cpu,
+            event: self.event,
+        };
+        let mut walking = Walking { watch, turn };
+        let ended = match self.turn(&mut walking, vcpu, bus, steps) {
             Ok(ended) => ended,
             Err(cut) => return Err(cut),
         };
@@ -242,7 +261,7 @@ impl PlainMachine {
         ensures shape { world_shape self.new.world ≡ world_shape self.old.world }
         ensures number { OnOk result (self.new.world.event ≡ self.old.world.event + 1) }
         ensures stopped { self.new.stopped ≡ self.old.stopped }
-        ensures told { AreTold self.old self.new }
+        ensures marked { ChangesAreMarked self.old self.new }
     {
         match bus.feed_device(device, value) {
             Ok(()) => {
@@ -253,12 +272,13 @@ impl PlainMachine {
         }
     }
 
-    /// What an event does, before a refusal of the bus stops the machine.
-    #[tactic(auto, using(port_bus::proofs::Counts::counts, crate::proofs::MarkLemmas::marks), unfolding(svm_model::specs::Machine::Events::event_of, svm_model::specs::Machine::Runs::reached_of, svm_model::specs::Machine::Runs::HandsOverOf))]
-    fn happen<B: Ports, L: Ledger>(
+    /// What an event does, before a refusal stops the machine.
+    #[tactic(auto, using(port_bus::proofs::Counts::counts, crate::proofs::MarkLemmas::marks), unfolding(svm_model::specs::Machine::Events::event_of, svm_model::specs::Machine::Runs::reached_of, svm_model::specs::Machine::Runs::HandsOverOf, crate::specs::Cuts::bus_reached_of, crate::specs::Cuts::HasTurn))]
+    fn happen<W: Watch, B: Ports, L: Ledger>(
         &mut self,
         event: Event,
         bus: &mut B,
+        watch: &mut W,
         steps: &mut Steps<L>,
     ) -> Result<Effect, Cut>
         requires named { IsNamed (world_shape self.old.world) event }
@@ -266,15 +286,17 @@ impl PlainMachine {
         ensures world { OnOk result (self.new.world ≡ (event_of self.old.world (B.bus bus.old) event).world) }
         ensures bus { OnOk result (B.bus bus.new ≡ (event_of self.old.world (B.bus bus.old) event).bus) }
         ensures effect { IfOk result (λ effect. effect ≡ (event_of self.old.world (B.bus bus.old) event).effect) }
+        ensures told { OnOk result (Leads W.tells watch.old (told_notices (turn_in_event self.old.world event (event_of self.old.world (B.bus bus.old) event).effect.vcpu) (event_of self.old.world (B.bus bus.old) event).told) watch.new) }
         ensures reached { IfErr result (λ cut. self.new.world ≡ reached_of cut.call self.old.world (B.bus bus.old) event) }
-        ensures hands_over { IfErr result (λ cut. HandsOverOf cut.call self.old.world (B.bus bus.old) event) }
-        ensures kept { OnErr result (B.bus bus.new ≡ B.bus bus.old) }
+        ensures bus_reached { IfErr result (λ cut. B.bus bus.new ≡ bus_reached_of cut.call self.old.world (B.bus bus.old) event) }
+        ensures cut { IfErr result (λ cut. IsCutOf cut.call self.old.world (B.bus bus.old) event (B.bus bus.new) (W.refusals watch.old) (W.refusals watch.new)) }
+        ensures none_refused { W.refusals watch.old ≤ W.refusals watch.new }
         ensures blamed { IfErr result (λ cut. Blames cut.end (B.faults bus.old) (B.faults bus.new)) }
         ensures none_fell { NoneFell (B.faults bus.old) (B.faults bus.new) }
         ensures shape { world_shape self.new.world ≡ world_shape self.old.world }
         ensures number { OnOk result (self.new.world.event ≡ self.old.world.event + 1) }
         ensures stopped { self.new.stopped ≡ self.old.stopped }
-        ensures told { AreTold self.old self.new }
+        ensures marked { ChangesAreMarked self.old self.new }
         ensures steps { steps.new ≤ steps.old + 6368 }
         ensures still { is_run event ≡ false → steps.new ≡ steps.old }
         ensures later { steps.old ≤ steps.new }
@@ -285,7 +307,7 @@ impl PlainMachine {
                 self.finish_event();
                 Ok(NOTHING)
             }
-            Event::Run { cpu } => self.run(cpu, bus, steps),
+            Event::Run { cpu } => self.run(cpu, bus, watch, steps),
             Event::Feed { device, value } => self.feed(device, value, bus),
             Event::Irq { vcpu, vector } => {
                 self.interrupt(vcpu, vector);
@@ -314,16 +336,22 @@ impl PlainMachine {
     /// reads are counted, as many as a turn may spend, and none where no vcpu may take one. The event names what the image and
     /// the bus have, fewer than 1,048,576 events came before it, and the machine is not stopped.
     ///
-    /// Only a feed, or a turn's write to a port, may be refused: the answer is the bus's, which blames a device only where
-    /// that counted a fault in this call. The bus is then as it was, and the machine stands where the event had come to when
-    /// that outward call of it was refused, with the vcpu before its instruction, and is stopped.
+    /// One who watches is told each access of the turn that is walked for, with its passes through outer tables before it, each
+    /// flush, the fields of each VMCB that are found at a VMRUN or at a turn inside one, and those that a #VMEXIT stores, in the
+    /// order in which they come.
+    ///
+    /// Only a feed, a turn's write to a port, or such a notice may be refused. The answer to the first two is the bus's, which
+    /// blames a device only where that counted a fault in this call; the bus is then as it was. A notice is refused only where
+    /// the watch counted a refusal in this call. The machine stands where the event had come to when that outward call of it was
+    /// refused, with the vcpu before its instruction, and is stopped.
     ///
     /// Each page of which a byte has changed is marked as written, also where the event was cut off.
     #[tactic(auto, using(svm_model::proofs::EndLemmas::ends, crate::proofs::MarkLemmas::marks))]
-    pub fn event<B: Ports, L: Ledger>(
+    pub fn event<W: Watch, B: Ports, L: Ledger>(
         &mut self,
         event: Event,
         bus: &mut B,
+        watch: &mut W,
         steps: &mut Steps<L>,
     ) -> Result<Effect, RunEnd>
         requires named { IsNamed (world_shape self.old.world) event }
@@ -333,12 +361,14 @@ impl PlainMachine {
         ensures bus { OnOk result (B.bus bus.new ≡ (plain_event self.old.world (B.bus bus.old) event).bus) }
         ensures effect { IfOk result (λ effect. effect ≡ (plain_event self.old.world (B.bus bus.old) event).effect) }
         ensures stopped { self.new.stopped ≡ is_err result }
-        ensures reached { OnErr result ((call : ℕ) × (self.new.world ≡ reached call self.old.world (B.bus bus.old) event) × HandsOver call self.old.world (B.bus bus.old) event) }
-        ensures kept { OnErr result (B.bus bus.new ≡ B.bus bus.old) }
+        ensures told { OnOk result (Leads W.tells watch.old (event_notices self.old.world (B.bus bus.old) event) watch.new) }
+        ensures cut { OnErr result ((call : ℕ) × (self.new.world ≡ reached call self.old.world (B.bus bus.old) event) × (B.bus bus.new ≡ bus_reached call self.old.world (B.bus bus.old) event)
+            × IsCut call self.old.world (B.bus bus.old) event (B.bus bus.new) (W.refusals watch.old) (W.refusals watch.new)) }
+        ensures none_refused { W.refusals watch.old ≤ W.refusals watch.new }
         ensures blamed { IfErr result (λ end. Blames end (B.faults bus.old) (B.faults bus.new)) }
         ensures none_fell { NoneFell (B.faults bus.old) (B.faults bus.new) }
         ensures others { OthersStay self.old.world event self.new.world }
-        ensures told { AreTold self.old self.new }
+        ensures marked { ChangesAreMarked self.old self.new }
         ensures ends_stay { EndsStay self.old.world self.new.world }
         ensures shape { world_shape self.new.world ≡ world_shape self.old.world }
         ensures number { OnOk result (self.new.world.event ≡ self.old.world.event + 1) }
@@ -347,7 +377,7 @@ impl PlainMachine {
         ensures later { steps.old ≤ steps.new }
     {
         self.ring_timers();
-        match self.happen(event, bus, steps) {
+        match self.happen(event, bus, watch, steps) {
             Ok(effect) => Ok(effect),
             Err(cut) => {
                 self.stopped = true;
@@ -366,7 +396,7 @@ impl PlainMachine {
         true
     }
 
-    /// Whether the machine is stopped, since the bus refused what an event handed it. It then takes no event.
+    /// Whether the machine is stopped, since an outward call of an event was refused. It then takes no event.
     pub fn is_stopped(&self) -> bool
         ensures { result ≡ self.now.stopped }
     {

@@ -1,6 +1,6 @@
 // Rows that move a VMCB, on the plain machine: VMRUN, VMLOAD and VMSAVE read and write it in the guest's memory.
-ghost use Rattle.std.specs.Prelude.{◌≡◌, ℕ, ◌+◌, ◌≤◌, List, slice_index};
-ghost use Rattle.svm_model.specs.Machine.MovedVmcbs.{behind_flush, entered_turn, flush_of as flush_by, moved_by, offered_to_l1, on_broken, on_mode, vmload as loaded_turn, vmrun as vmrun_turn, vmsave as saved_turn};
+ghost use Rattle.std.specs.Prelude.{◌≡◌, ℕ, ◌+◌, ◌≤◌, List, None, length, slice_index};
+ghost use Rattle.svm_model.specs.Machine.MovedVmcbs.{behind_flush, entered_turn, exited_at_once, flush_of as flush_by, moved_by, offered_to_l1, on_broken, on_mode, vmload as loaded_turn, vmrun as vmrun_turn, vmsave as saved_turn};
 ghost use Rattle.svm_model.specs.Machine.Notices.{over};
 ghost use Rattle.svm_model.specs.Memory.Bytes.{IsWithin, SameOutside, guest_of};
 ghost use Rattle.svm_model.specs.Svm.Vmcb.{fields_at, fields_in, value as value_in, v_tpr as tpr_of, v_irq as irq_of, v_gif as gif_of};
@@ -10,16 +10,22 @@ ghost use Rattle.svm_model.specs.Svm.Vmrun.{entered, held_by as held_of, inside_
 ghost use Rattle.svm_model.specs.Turn.Course.{Board, Told};
 ghost use Rattle.svm_model.specs.declared.turns.Space.{Space as SpaceRecord};
 ghost use Rattle.svm_model.specs.declared.turns.Stepped.{Stepped as SteppedRecord};
-ghost use Rattle.plain_machine.specs.Turning.{counted, granting, Gives};
+ghost use Rattle.turn_exec.specs.Plays.{IsCause};
+ghost use Rattle.turn_exec.specs.declared.guest_turn.Outward.{Outward as OutwardRecord};
+ghost use Rattle.plain_machine.specs.Turning.{heard_board, way_by, Adds, Gives, IsGoing, Later};
 
+use crate::walking::leave;
+use crate::watching::Walking;
 use host_memory::{GuestWindow, HostMemory, Steps};
 use std::sync::ledger::Ledger;
 use svm_model::{
     Checked, End, Facts, Field, Flush, Injection, Inside, Kept, Offered, Op, Stepped, Trap, Vcpu,
 };
-use svm_switch::{enter, refuse_in_memory, vmload, vmsave};
+use svm_switch::{EXIT_FIELDS, enter, refuse_in_memory, store_refusal, vmload, vmsave};
+use turn_exec::Outward;
 use vmcb_checks::{check, read_injection, unoffered_mode};
 use vmcb_layout::{Fields, read_fields};
+use watch::Watch;
 
 /// The event that a legal EVENTINJ holds for the next turn.
 fn held_by(injection: Injection) -> Option<Trap>
@@ -66,7 +72,7 @@ fn flush_of(control: u8, asid: u32) -> Option<Flush>
     }
 }
 
-/// The flush that the VMCB asks for. No copies are kept here, so nothing is dropped.
+/// The flush that the VMCB asks for.
 #[tactic(auto, unfolding(svm_model::specs::Svm::VmcbLayout::layout, svm_model::specs::Svm::VmcbLayout::number_of, svm_model::specs::Svm::VmcbLayout::place_at))]
 fn flush_in(fields: &Fields) -> Option<Flush>
     ensures { result ≡ flush_by (value_in fields.now Field.TlbControl) (value_in fields.now Field.Asid) }
@@ -75,22 +81,70 @@ fn flush_in(fields: &Fields) -> Option<Flush>
     flush_of(control, fields.value(Field::Asid) as u32)
 }
 
-/// A VMRUN of a VMCB that keeps the rules: the guest is entered, behind its flush, or ends where its mode is not offered.
-fn run_legal(vcpu: &mut Vcpu, fields: &Fields, vmcb: u64, next_rip: u64, calls: &mut u64) -> Stepped
-    requires few { calls.old ≤ 1000 }
-    ensures gives { (space : SpaceRecord) (board : Board) (memory : List ℕ) (before : SteppedRecord) (told : List Told) →
-        Gives (on_mode (granting space) (over memory (counted board calls.old) vcpu.old before told) vmcb next_rip fields.now (mode_of fields.now))
-        memory (counted board calls.new) vcpu.new result }
-    ensures more { calls.old ≤ calls.new }
-    ensures few { calls.new ≤ calls.old + 1 }
+/// A VMRUN of a VMCB that keeps the rules and asks for modes that are offered: the guest is entered behind its flush, which is
+/// told.
+fn run_offered<'w, W: Watch>(
+    walking: &mut Walking<'w, W>,
+    vcpu: &mut Vcpu,
+    fields: &Fields,
+    vmcb: u64,
+    next_rip: u64,
+    outward: &mut Outward,
+)
+    requires going { IsGoing outward.old }
+    requires few { outward.old.calls ≤ 1000 }
+    ensures gives { (space : SpaceRecord) (board : Board) (memory : List ℕ) (before : SteppedRecord) (told : List Told) (last : OutwardRecord) → Later outward.new last →
+        Gives (behind_flush (way_by space last) (over memory (heard_board board outward.old) vcpu.old before told) (flush_by (value_in fields.now Field.TlbControl) (value_in fields.now Field.Asid)) (entered_turn vmcb next_rip fields.now))
+        memory (heard_board board outward.new) vcpu.new Stepped.Went }
+    ensures told { (space : SpaceRecord) (board : Board) (memory : List ℕ) (before : SteppedRecord) (told : List Told) (last : OutwardRecord) → Later outward.new last →
+        Adds W.tells walking.old.turn last.refused (behind_flush (way_by space last) (over memory (heard_board board outward.old) vcpu.old before told) (flush_by (value_in fields.now Field.TlbControl) (value_in fields.now Field.Asid)) (entered_turn vmcb next_rip fields.now)).told
+        walking.old.watch.now walking.new.watch.now }
+    ensures cause { IsCause outward.new.refused None (W.refusals walking.old.watch.now) (W.refusals walking.new.watch.now) }
+    ensures none_refused { W.refusals walking.old.watch.now ≤ W.refusals walking.new.watch.now }
+    ensures denied { outward.new.denied ≡ outward.old.denied }
+    ensures sent { outward.new.sent ≡ outward.old.sent }
+    ensures turn { walking.new.turn ≡ walking.old.turn }
+    ensures name { walking.new.watch.ghost_name ≡ walking.old.watch.ghost_name }
+    ensures passed { Later outward.old outward.new }
+{
+    let Some(flush) = flush_in(fields) else {
+        enter_guest(vcpu, fields, vmcb, next_rip);
+        return;
+    };
+    if walking.tell_flushed(flush, outward) {
+        enter_guest(vcpu, fields, vmcb, next_rip);
+    }
+}
+
+/// A VMRUN of a VMCB that keeps the rules: the guest is entered, or ends where its mode is not offered.
+fn run_legal<'w, W: Watch>(
+    walking: &mut Walking<'w, W>,
+    vcpu: &mut Vcpu,
+    fields: &Fields,
+    vmcb: u64,
+    next_rip: u64,
+    outward: &mut Outward,
+) -> Stepped
+    requires going { IsGoing outward.old }
+    requires few { outward.old.calls ≤ 1000 }
+    ensures gives { (space : SpaceRecord) (board : Board) (memory : List ℕ) (before : SteppedRecord) (told : List Told) (last : OutwardRecord) → Later outward.new last →
+        Gives (on_mode (way_by space last) (over memory (heard_board board outward.old) vcpu.old before told) vmcb next_rip fields.now (mode_of fields.now))
+        memory (heard_board board outward.new) vcpu.new result }
+    ensures told { (space : SpaceRecord) (board : Board) (memory : List ℕ) (before : SteppedRecord) (told : List Told) (last : OutwardRecord) → Later outward.new last →
+        Adds W.tells walking.old.turn last.refused (on_mode (way_by space last) (over memory (heard_board board outward.old) vcpu.old before told) vmcb next_rip fields.now (mode_of fields.now)).told
+        walking.old.watch.now walking.new.watch.now }
+    ensures cause { IsCause outward.new.refused None (W.refusals walking.old.watch.now) (W.refusals walking.new.watch.now) }
+    ensures none_refused { W.refusals walking.old.watch.now ≤ W.refusals walking.new.watch.now }
+    ensures denied { outward.new.denied ≡ outward.old.denied }
+    ensures sent { outward.new.sent ≡ outward.old.sent }
+    ensures turn { walking.new.turn ≡ walking.old.turn }
+    ensures name { walking.new.watch.ghost_name ≡ walking.old.watch.ghost_name }
+    ensures passed { Later outward.old outward.new }
 {
     if let Some(rule) = unoffered_mode(fields) {
         return Stepped::Ends(End::Mode { rule });
     }
-    if flush_in(fields).is_some() {
-        *calls += 1;
-    }
-    enter_guest(vcpu, fields, vmcb, next_rip);
+    run_offered(walking, vcpu, fields, vmcb, next_rip, outward);
     Stepped::Went
 }
 
@@ -104,72 +158,138 @@ fn offered(facts: &Facts) -> Offered
     }
 }
 
-/// A VMRUN of a VMCB with these fields: an illegal one exits at once, with code -1 (volume 2, 'Canonicalization and Consistency
+/// The exit of an illegal VMRUN, with code -1: it is told, and stored in the VMCB (volume 2, 'Canonicalization and Consistency
 /// Checks').
 #[tactic(auto, using(svm_model::proofs::WindowLemmas::windows))]
-fn run_found(
+fn refuse_guest<'w, W: Watch>(
+    walking: &mut Walking<'w, W>,
+    memory: &mut HostMemory,
+    window: GuestWindow,
+    vcpu: &mut Vcpu,
+    fields: &mut Fields,
+    next_rip: u64,
+    outward: &mut Outward,
+)
+    requires window { IsWithin window memory.old.bytes }
+    requires page { slice_index vcpu.old.registers.general 0 + 4096 ≤ window.size }
+    requires size { length fields.old.values ≡ 86 }
+    requires going { IsGoing outward.old }
+    requires few { outward.old.calls ≤ 1000 }
+    ensures gives { (space : SpaceRecord) (board : Board) (before : SteppedRecord) (told : List Told) (last : OutwardRecord) → Later outward.new last →
+        Gives (exited_at_once (way_by space last) (over (guest_of window memory.old.bytes) (heard_board board outward.old) vcpu.old before told) (slice_index vcpu.old.registers.general 0) next_rip fields.old)
+        (guest_of window memory.new.bytes) (heard_board board outward.new) vcpu.new Stepped.Went }
+    ensures told { (space : SpaceRecord) (board : Board) (before : SteppedRecord) (told : List Told) (last : OutwardRecord) → Later outward.new last →
+        Adds W.tells walking.old.turn last.refused (exited_at_once (way_by space last) (over (guest_of window memory.old.bytes) (heard_board board outward.old) vcpu.old before told) (slice_index vcpu.old.registers.general 0) next_rip fields.old).told
+        walking.old.watch.now walking.new.watch.now }
+    ensures cause { IsCause outward.new.refused None (W.refusals walking.old.watch.now) (W.refusals walking.new.watch.now) }
+    ensures none_refused { W.refusals walking.old.watch.now ≤ W.refusals walking.new.watch.now }
+    ensures denied { outward.new.denied ≡ outward.old.denied }
+    ensures sent { outward.new.sent ≡ outward.old.sent }
+    ensures turn { walking.new.turn ≡ walking.old.turn }
+    ensures name { walking.new.watch.ghost_name ≡ walking.old.watch.ghost_name }
+    ensures passed { Later outward.old outward.new }
+    ensures others { SameOutside window memory.old memory.new }
+{
+    let vmcb = vcpu.registers.general[0];
+    store_refusal(fields);
+    if walking.tell_left(vmcb, &EXIT_FIELDS, fields, outward) {
+        refuse_in_memory(&mut vcpu.registers, next_rip, fields, memory, window, vmcb);
+        leave(vcpu);
+    }
+}
+
+/// A VMRUN of a VMCB with these fields: an illegal one exits at once.
+#[tactic(auto, using(svm_model::proofs::WindowLemmas::windows))]
+fn run_found<'w, W: Watch>(
+    walking: &mut Walking<'w, W>,
     memory: &mut HostMemory,
     window: GuestWindow,
     facts: &Facts,
     vcpu: &mut Vcpu,
     fields: &mut Fields,
     next_rip: u64,
-    calls: &mut u64,
+    outward: &mut Outward,
 ) -> Stepped
     requires window { IsWithin window memory.old.bytes }
     requires page { slice_index vcpu.old.registers.general 0 + 4096 ≤ window.size }
-    requires found { fields.old ≡ fields_in (guest_of window memory.old.bytes) (slice_index vcpu.old.registers.general 0) }
-    requires few { calls.old ≤ 1000 }
-    ensures gives { (space : SpaceRecord) (board : Board) (before : SteppedRecord) (told : List Told) →
-        Gives (on_broken (granting space) (over (guest_of window memory.old.bytes) (counted board calls.old) vcpu.old before told) (slice_index vcpu.old.registers.general 0) next_rip fields.old (broken fields.old (offered_to_l1 facts.now)))
-        (guest_of window memory.new.bytes) (counted board calls.new) vcpu.new result }
-    ensures more { calls.old ≤ calls.new }
-    ensures few { calls.new ≤ calls.old + 1 }
+    requires size { length fields.old.values ≡ 86 }
+    requires going { IsGoing outward.old }
+    requires few { outward.old.calls ≤ 1000 }
+    ensures gives { (space : SpaceRecord) (board : Board) (before : SteppedRecord) (told : List Told) (last : OutwardRecord) → Later outward.new last →
+        Gives (on_broken (way_by space last) (over (guest_of window memory.old.bytes) (heard_board board outward.old) vcpu.old before told) (slice_index vcpu.old.registers.general 0) next_rip fields.old (broken fields.old (offered_to_l1 facts.now)))
+        (guest_of window memory.new.bytes) (heard_board board outward.new) vcpu.new result }
+    ensures told { (space : SpaceRecord) (board : Board) (before : SteppedRecord) (told : List Told) (last : OutwardRecord) → Later outward.new last →
+        Adds W.tells walking.old.turn last.refused (on_broken (way_by space last) (over (guest_of window memory.old.bytes) (heard_board board outward.old) vcpu.old before told) (slice_index vcpu.old.registers.general 0) next_rip fields.old (broken fields.old (offered_to_l1 facts.now))).told
+        walking.old.watch.now walking.new.watch.now }
+    ensures cause { IsCause outward.new.refused None (W.refusals walking.old.watch.now) (W.refusals walking.new.watch.now) }
+    ensures none_refused { W.refusals walking.old.watch.now ≤ W.refusals walking.new.watch.now }
+    ensures denied { outward.new.denied ≡ outward.old.denied }
+    ensures sent { outward.new.sent ≡ outward.old.sent }
+    ensures turn { walking.new.turn ≡ walking.old.turn }
+    ensures name { walking.new.watch.ghost_name ≡ walking.old.watch.ghost_name }
+    ensures passed { Later outward.old outward.new }
     ensures others { SameOutside window memory.old memory.new }
 {
     let vmcb = vcpu.registers.general[0];
     if let Checked::Legal = check(fields, offered(facts)) {
-        return run_legal(vcpu, fields, vmcb, next_rip, calls);
+        return run_legal(walking, vcpu, fields, vmcb, next_rip, outward);
     }
-    *calls += 1;
-    refuse_in_memory(&mut vcpu.registers, next_rip, fields, memory, window, vmcb);
-    vcpu.gif = false;
-    vcpu.held = None;
-    vcpu.halted = false;
-    vcpu.inside = None;
+    refuse_guest(walking, memory, window, vcpu, fields, next_rip, outward);
     Stepped::Went
 }
 
-/// VMRUN of the VMCB at the address in rAX; the guest ends where its page is not all in memory (volume 2, 'VMRUN
-/// Instruction'; volume 3, 'VMRUN').
+/// VMRUN of the VMCB at the address in rAX, whose fields are told as they are found; the guest ends where its page is not all in
+/// memory (volume 2, 'VMRUN Instruction'; volume 3, 'VMRUN').
 #[tactic(auto, using(svm_model::proofs::WindowLemmas::windows, crate::proofs::FoundFields::found))]
-fn run<L: Ledger>(
+fn run<'w, W: Watch, L: Ledger>(
+    walking: &mut Walking<'w, W>,
     memory: &mut HostMemory,
     window: GuestWindow,
     facts: &Facts,
     vcpu: &mut Vcpu,
     next_rip: u64,
     steps: &mut Steps<L>,
-    calls: &mut u64,
+    outward: &mut Outward,
 ) -> Stepped
     requires window { IsWithin window memory.old.bytes }
-    requires few { calls.old ≤ 900 }
-    ensures gives { (space : SpaceRecord) (board : Board) (before : SteppedRecord) (told : List Told) →
-        Gives (vmrun_turn (granting space) facts.now (over (guest_of window memory.old.bytes) (counted board calls.old) vcpu.old before told) (slice_index vcpu.old.registers.general 0) next_rip (fields_at (guest_of window memory.old.bytes) (slice_index vcpu.old.registers.general 0)))
-        (guest_of window memory.new.bytes) (counted board calls.new) vcpu.new result }
-    ensures more { calls.old ≤ calls.new }
-    ensures few { calls.new ≤ calls.old + 2 }
+    requires going { IsGoing outward.old }
+    requires few { outward.old.calls ≤ 900 }
+    ensures gives { (space : SpaceRecord) (board : Board) (before : SteppedRecord) (told : List Told) (last : OutwardRecord) → Later outward.new last →
+        Gives (vmrun_turn (way_by space last) facts.now (over (guest_of window memory.old.bytes) (heard_board board outward.old) vcpu.old before told) (slice_index vcpu.old.registers.general 0) next_rip (fields_at (guest_of window memory.old.bytes) (slice_index vcpu.old.registers.general 0)))
+        (guest_of window memory.new.bytes) (heard_board board outward.new) vcpu.new result }
+    ensures told { (space : SpaceRecord) (board : Board) (before : SteppedRecord) (told : List Told) (last : OutwardRecord) → Later outward.new last →
+        Adds W.tells walking.old.turn last.refused (vmrun_turn (way_by space last) facts.now (over (guest_of window memory.old.bytes) (heard_board board outward.old) vcpu.old before told) (slice_index vcpu.old.registers.general 0) next_rip (fields_at (guest_of window memory.old.bytes) (slice_index vcpu.old.registers.general 0))).told
+        walking.old.watch.now walking.new.watch.now }
+    ensures cause { IsCause outward.new.refused None (W.refusals walking.old.watch.now) (W.refusals walking.new.watch.now) }
+    ensures none_refused { W.refusals walking.old.watch.now ≤ W.refusals walking.new.watch.now }
+    ensures denied { outward.new.denied ≡ outward.old.denied }
+    ensures sent { outward.new.sent ≡ outward.old.sent }
+    ensures turn { walking.new.turn ≡ walking.old.turn }
+    ensures name { walking.new.watch.ghost_name ≡ walking.old.watch.ghost_name }
+    ensures passed { Later outward.old outward.new }
     ensures others { SameOutside window memory.old memory.new }
     ensures steps { steps.new ≤ steps.old + 34 }
     ensures later { steps.old ≤ steps.new }
 {
-    match read_fields(memory, window, vcpu.registers.general[0], steps) {
+    let vmcb = vcpu.registers.general[0];
+    match read_fields(memory, window, vmcb, steps) {
         Err(outside) => Stepped::Ends(End::OutsideMemory {
             address: outside.address,
         }),
         Ok(mut fields) => {
-            *calls += 1;
-            run_found(memory, window, facts, vcpu, &mut fields, next_rip, calls)
+            if !walking.tell_found(vmcb, true, &fields, outward) {
+                return Stepped::Went;
+            }
+            run_found(
+                walking,
+                memory,
+                window,
+                facts,
+                vcpu,
+                &mut fields,
+                next_rip,
+                outward,
+            )
         }
     }
 }
@@ -227,7 +347,8 @@ fn save(memory: &mut HostMemory, window: GuestWindow, vcpu: &mut Vcpu, next_rip:
 
 /// A row that moves the VMCB at the address in rAX: VMLOAD, VMSAVE or VMRUN. In L2 too that is an address of L1's memory.
 #[tactic(auto, unfolding(svm_model::specs::Machine::MovedVmcbs::moved_by))]
-pub fn move_vmcb<L: Ledger>(
+pub fn move_vmcb<'w, W: Watch, L: Ledger>(
+    walking: &mut Walking<'w, W>,
     memory: &mut HostMemory,
     window: GuestWindow,
     facts: &Facts,
@@ -235,15 +356,24 @@ pub fn move_vmcb<L: Ledger>(
     op: Op,
     next_rip: u64,
     steps: &mut Steps<L>,
-    calls: &mut u64,
+    outward: &mut Outward,
 ) -> Stepped
     requires window { IsWithin window memory.old.bytes }
-    requires few { calls.old ≤ 900 }
-    ensures gives { (space : SpaceRecord) (board : Board) (before : SteppedRecord) (told : List Told) →
-        Gives (moved_by op (granting space) facts.now (over (guest_of window memory.old.bytes) (counted board calls.old) vcpu.old before told) (slice_index vcpu.old.registers.general 0) next_rip)
-        (guest_of window memory.new.bytes) (counted board calls.new) vcpu.new result }
-    ensures more { calls.old ≤ calls.new }
-    ensures few { calls.new ≤ calls.old + 2 }
+    requires going { IsGoing outward.old }
+    requires few { outward.old.calls ≤ 900 }
+    ensures gives { (space : SpaceRecord) (board : Board) (before : SteppedRecord) (told : List Told) (last : OutwardRecord) → Later outward.new last →
+        Gives (moved_by op (way_by space last) facts.now (over (guest_of window memory.old.bytes) (heard_board board outward.old) vcpu.old before told) (slice_index vcpu.old.registers.general 0) next_rip)
+        (guest_of window memory.new.bytes) (heard_board board outward.new) vcpu.new result }
+    ensures told { (space : SpaceRecord) (board : Board) (before : SteppedRecord) (told : List Told) (last : OutwardRecord) → Later outward.new last →
+        Adds W.tells walking.old.turn last.refused (moved_by op (way_by space last) facts.now (over (guest_of window memory.old.bytes) (heard_board board outward.old) vcpu.old before told) (slice_index vcpu.old.registers.general 0) next_rip).told
+        walking.old.watch.now walking.new.watch.now }
+    ensures cause { IsCause outward.new.refused None (W.refusals walking.old.watch.now) (W.refusals walking.new.watch.now) }
+    ensures none_refused { W.refusals walking.old.watch.now ≤ W.refusals walking.new.watch.now }
+    ensures denied { outward.new.denied ≡ outward.old.denied }
+    ensures sent { outward.new.sent ≡ outward.old.sent }
+    ensures turn { walking.new.turn ≡ walking.old.turn }
+    ensures name { walking.new.watch.ghost_name ≡ walking.old.watch.ghost_name }
+    ensures passed { Later outward.old outward.new }
     ensures others { SameOutside window memory.old memory.new }
     ensures steps { steps.new ≤ steps.old + 34 }
     ensures later { steps.old ≤ steps.new }
@@ -251,6 +381,8 @@ pub fn move_vmcb<L: Ledger>(
     match op {
         Op::Vmload => load(memory, window, vcpu, next_rip, steps),
         Op::Vmsave => save(memory, window, vcpu, next_rip),
-        _ => run(memory, window, facts, vcpu, next_rip, steps, calls),
+        _ => run(
+            walking, memory, window, facts, vcpu, next_rip, steps, outward,
+        ),
     }
 }

@@ -1,14 +1,18 @@
 // The turn of a vcpu of one guest, and what it is among all guests.
-ghost use Rattle.std.specs.Prelude.{◌≡◌, ℕ, ◌+◌, ◌<◌, ◌≤◌, Some, None, length, slice_get, slice_set, OnOk, OnErr, IfOk, IfErr, IfSome};
+ghost use Rattle.std.specs.Prelude.{◌≡◌, ℕ, ◌+◌, ◌<◌, ◌≤◌, Some, None, length, slice_get, slice_set, is_some, OnOk, IfOk, IfErr, IfSome};
 ghost use Rattle.svm_model.specs.Memory.Bytes.{AreMarked, IsWithin, SameOutside};
+ghost use Rattle.svm_model.specs.Audit.WatchCalls.{notices};
 ghost use Rattle.svm_model.specs.Machine.Turns.{end_by as end_of_turn};
 ghost use Rattle.port_bus.specs.Causes.{Blames, NoneFell};
+ghost use Rattle.watch.specs.Leads.{Leads};
+ghost use Rattle.plain_machine.specs.Cuts.{IsCutBy};
 ghost use Rattle.plain_machine.specs.GuestTurns.{facts_in, guest_turn, outcome_of, IsOutIn};
 ghost use Rattle.plain_machine.specs.Slots.{guest_at, guests_at, layout, layouts, AreInRow, IsSlot};
 
 use crate::sending::spread;
 use crate::slots::Slot;
 use crate::walking::take_turn;
+use crate::watching::Walking;
 use apic_state::Apic;
 use host_memory::{HostMemory, Steps};
 use port_bus::Ports;
@@ -16,6 +20,7 @@ use row_table::KeptRows;
 use std::sync::ledger::Ledger;
 use svm_model::{Ended, Facts, RunEnd, Stepped, Vcpu, VcpuId};
 use turn_exec::Outward;
+use watch::Watch;
 
 /// Whose turn it is, at which event, on a machine of which features.
 #[derive(Clone, Copy)]
@@ -32,10 +37,13 @@ pub struct Cut {
     pub call: u64,
 }
 
-/// The end that came in a turn.
-fn end_by(moment: &Moment, stepped: &Stepped) -> Option<Ended>
-    ensures { result ≡ end_of_turn moment.now.vcpu.index moment.now.event stepped.now }
+/// The end that came in a turn; none where the turn was cut off.
+fn end_by(moment: &Moment, outward: &Outward, stepped: &Stepped) -> Option<Ended>
+    ensures { result ≡ end_of_turn (is_some outward.now.refused) moment.now.vcpu.index moment.now.event stepped.now }
 {
+    if outward.refused.is_some() {
+        return None;
+    }
     match stepped {
         Stepped::Ends(end) => Some(Ended {
             end: *end,
@@ -87,7 +95,8 @@ fn outcome_of(
 
 /// The turn of a vcpu of a guest; nothing where the guest was ended. At most 6368 reads are counted.
 #[tactic(auto, using(svm_model::proofs::WindowLemmas::windows, port_bus::proofs::Counts::counts))]
-fn turn_guest<B: Ports, L: Ledger>(
+fn turn_guest<'w, W: Watch, B: Ports, L: Ledger>(
+    walking: &mut Walking<'w, W>,
     memory: &mut HostMemory,
     slot: &mut Slot,
     bus: &mut B,
@@ -102,8 +111,11 @@ fn turn_guest<B: Ports, L: Ledger>(
     ensures bus { OnOk result (B.bus bus.new ≡ (guest_turn None moment.now (B.bus bus.old) (guest_at memory.old.bytes slot.old)).bus) }
     ensures ended { IfOk result (λ ended. ended ≡ (guest_turn None moment.now (B.bus bus.old) (guest_at memory.old.bytes slot.old)).ended) }
     ensures reached { IfErr result (λ cut. guest_at memory.new.bytes slot.new ≡ (guest_turn (Some cut.call) moment.now (B.bus bus.old) (guest_at memory.old.bytes slot.old)).guest) }
-    ensures out { IfErr result (λ cut. IsOutIn cut.call moment.now (B.bus bus.old) (guest_at memory.old.bytes slot.old)) }
-    ensures kept { OnErr result (B.bus bus.new ≡ B.bus bus.old) }
+    ensures told { OnOk result (Leads W.tells walking.old.watch.now (notices walking.old.turn (guest_turn None moment.now (B.bus bus.old) (guest_at memory.old.bytes slot.old)).told) walking.new.watch.now) }
+    ensures bus_reached { IfErr result (λ cut. B.bus bus.new ≡ (guest_turn (Some cut.call) moment.now (B.bus bus.old) (guest_at memory.old.bytes slot.old)).bus) }
+    ensures cut { IfErr result (λ cut. IsCutBy (IsOutIn cut.call moment.now (B.bus bus.old) (guest_at memory.old.bytes slot.old)) (Unit {0}) (B.bus bus.old) (B.bus bus.new) (W.refusals walking.old.watch.now) (W.refusals walking.new.watch.now)) }
+    ensures none_refused { W.refusals walking.old.watch.now ≤ W.refusals walking.new.watch.now }
+    ensures name { walking.new.watch.ghost_name ≡ walking.old.watch.ghost_name }
     ensures blamed { IfErr result (λ cut. Blames cut.end (B.faults bus.old) (B.faults bus.new)) }
     ensures none_fell { NoneFell (B.faults bus.old) (B.faults bus.new) }
     ensures layout { layout slot.new ≡ layout slot.old }
@@ -121,6 +133,7 @@ fn turn_guest<B: Ports, L: Ledger>(
     let mut outward = Outward::new();
     let mut stepped = Stepped::Went;
     take_turn(
+        walking,
         memory,
         slot.window,
         bus,
@@ -132,7 +145,7 @@ fn turn_guest<B: Ports, L: Ledger>(
         &mut outward,
         &mut stepped,
     );
-    let ended = end_by(moment, &stepped);
+    let ended = end_by(moment, &outward, &stepped);
     note_end(&mut slot.ended, ended);
     spread(slot, moment.vcpu.index, outward.sent);
     outcome_of(ended, outward.refused, outward.calls)
@@ -140,7 +153,8 @@ fn turn_guest<B: Ports, L: Ledger>(
 
 /// The turn of a vcpu of one of the guests, whose windows stand in a row. All others stay as they are.
 #[tactic(auto, using(svm_model::proofs::WindowLemmas::windows, port_bus::proofs::Counts::counts))]
-pub fn turn_in<B: Ports, L: Ledger>(
+pub fn turn_in<'w, W: Watch, B: Ports, L: Ledger>(
+    walking: &mut Walking<'w, W>,
     memory: &mut HostMemory,
     slots: &mut [Slot],
     bus: &mut B,
@@ -157,8 +171,13 @@ pub fn turn_in<B: Ports, L: Ledger>(
     ensures ended { IfOk result (λ ended. IfSome (slice_get slots.old moment.now.vcpu.guest.0) (λ slot. ended ≡ (guest_turn None moment.now (B.bus bus.old) (guest_at memory.old.bytes slot)).ended)) }
     ensures reached { IfErr result (λ cut. IfSome (slice_get slots.old moment.now.vcpu.guest.0) (λ slot. guests_at memory.new.bytes slots.new
         ≡ slice_set (guests_at memory.old.bytes slots.old) moment.now.vcpu.guest.0 (guest_turn (Some cut.call) moment.now (B.bus bus.old) (guest_at memory.old.bytes slot)).guest)) }
-    ensures out { IfErr result (λ cut. IfSome (slice_get slots.old moment.now.vcpu.guest.0) (λ slot. IsOutIn cut.call moment.now (B.bus bus.old) (guest_at memory.old.bytes slot))) }
-    ensures kept { OnErr result (B.bus bus.new ≡ B.bus bus.old) }
+    ensures told { OnOk result (IfSome (slice_get slots.old moment.now.vcpu.guest.0) (λ slot.
+        Leads W.tells walking.old.watch.now (notices walking.old.turn (guest_turn None moment.now (B.bus bus.old) (guest_at memory.old.bytes slot)).told) walking.new.watch.now)) }
+    ensures bus_reached { IfErr result (λ cut. IfSome (slice_get slots.old moment.now.vcpu.guest.0) (λ slot. B.bus bus.new ≡ (guest_turn (Some cut.call) moment.now (B.bus bus.old) (guest_at memory.old.bytes slot)).bus)) }
+    ensures cut { IfErr result (λ cut. IfSome (slice_get slots.old moment.now.vcpu.guest.0) (λ slot.
+        IsCutBy (IsOutIn cut.call moment.now (B.bus bus.old) (guest_at memory.old.bytes slot)) (Unit {0}) (B.bus bus.old) (B.bus bus.new) (W.refusals walking.old.watch.now) (W.refusals walking.new.watch.now))) }
+    ensures none_refused { W.refusals walking.old.watch.now ≤ W.refusals walking.new.watch.now }
+    ensures name { walking.new.watch.ghost_name ≡ walking.old.watch.ghost_name }
     ensures blamed { IfErr result (λ cut. Blames cut.end (B.faults bus.old) (B.faults bus.new)) }
     ensures none_fell { NoneFell (B.faults bus.old) (B.faults bus.new) }
     ensures layouts { layouts slots.new ≡ layouts slots.old }
@@ -168,5 +187,5 @@ pub fn turn_in<B: Ports, L: Ledger>(
     ensures later { steps.old ≤ steps.new }
 {
     let slot = &mut slots[usize::from(moment.vcpu.guest.0)];
-    turn_guest(memory, slot, bus, rows, moment, steps)
+    turn_guest(walking, memory, slot, bus, rows, moment, steps)
 }

@@ -100,7 +100,7 @@ fn format_ran(alloc: Global, ran: Option<VcpuId>) -> Result<String, AllocError>
 }
 
 /// A vcpu by its guest and its place there.
-fn format_id(alloc: Global, vcpu: VcpuId) -> Result<String, AllocError>
+pub(crate) fn format_id(alloc: Global, vcpu: VcpuId) -> Result<String, AllocError>
     ensures { IfOk result (λ text. string_bytes text ≡ id_text vcpu) }
 {
     let guest = vcpu.guest.0;

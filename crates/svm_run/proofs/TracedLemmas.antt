@@ -19,7 +19,7 @@ use Rattle.svm_model.specs.declared.names.VcpuId.{VcpuId}
 use Rattle.svm_model.specs.declared.ports.PortWrite.{PortWrite}
 use Rattle.svm_model.specs.declared.vcpus.Vcpu.{Vcpu}
 use Rattle.plain_machine.specs.Machines.{Machine, vcpu_in, vcpu_of}
-use Rattle.plain_machine.specs.Marks.{AreTold}
+use Rattle.plain_machine.specs.Marks.{ChangesAreMarked}
 use Rattle.plain_machine.specs.Others.{HasNoTurn, IsNotOf, OthersStay, memory_of as told_memory}
 use Rattle.byte_shelf.specs.Sink.{IsCutShort}
 use Rattle.svm_run.proofs.Received.{appended-nothing}
@@ -182,7 +182,7 @@ run-there w (Nmi other) id well e = absurd (cc)
 run-there w (Unplug device) id well e = absurd (cc)
 run-there w (Dump guest address length) id well e = absurd (cc)
 
-has-run : (a b : Machine) (copies : List (List ℕ)) (id : VcpuId) → copies ≡ memories_in a.world.guests → world_shape b.world ≡ world_shape a.world → AreTold a b → IsVcpu (world_shape a.world) id → HasRun copies b id
+has-run : (a b : Machine) (copies : List (List ℕ)) (id : VcpuId) → copies ≡ memories_in a.world.guests → world_shape b.world ≡ world_shape a.world → ChangesAreMarked a b → IsVcpu (world_shape a.world) id → HasRun copies b id
 has-run a b copies id are shape told vcpu =
     let there : id.guest.0 < length a.world.guests = there-by a.world.guests id.guest.0 vcpu.0 vcpu.1 in
     let same : copy_of copies id.guest.0 ≡ memory_in a.world id.guest.0 = ap (λ cs. copy_of cs id.guest.0) are ∙ copy-memory a.world.guests id.guest.0 in
@@ -196,12 +196,12 @@ has-run a b copies id are shape told vcpu =
       };
     }
 
-may-have-by : (a b : Machine) (copies : List (List ℕ)) (o : Option VcpuId) → copies ≡ memories_in a.world.guests → world_shape b.world ≡ world_shape a.world → AreTold a b →
+may-have-by : (a b : Machine) (copies : List (List ℕ)) (o : Option VcpuId) → copies ≡ memories_in a.world.guests → world_shape b.world ≡ world_shape a.world → ChangesAreMarked a b →
     ((id : VcpuId) → o ≡ Some id → IsVcpu (world_shape a.world) id) → MayHaveRun copies b o
 may-have-by a b copies None are shape told h = tt
 may-have-by a b copies (Some id) are shape told h = has-run a b copies id are shape told (h id refl)
 
-pub may-have-run : (a b : Machine) (bus : Bus) (event : Event) (effect : Effect) (copies : List (List ℕ)) → copies ≡ memories_in a.world.guests → world_shape b.world ≡ world_shape a.world → AreTold a b → IsWellFormed a.world →
+pub may-have-run : (a b : Machine) (bus : Bus) (event : Event) (effect : Effect) (copies : List (List ℕ)) → copies ≡ memories_in a.world.guests → world_shape b.world ≡ world_shape a.world → ChangesAreMarked a b → IsWellFormed a.world →
     effect ≡ (plain_event a.world bus event).effect → MayHaveRun copies b effect.vcpu
 may-have-run a b bus event effect copies are shape told well e =
     subst (MayHaveRun copies b) (sym (ap (λ (x : Effect). x.vcpu) e ∙ effect-ran a.world bus event))

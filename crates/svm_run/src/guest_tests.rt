@@ -9,7 +9,7 @@ use crate::status::Status;
 use crate::tests::{HALT, Job, done, image_of};
 use host_memory::{Steps, counted_from};
 use image_format::Image;
-use plain_machine::PlainMachine;
+use plain_machine::{PlainMachine, Unwatched};
 use port_bus::{Bus, MemoryDevice, PortDevice, Ports};
 use std::alloc::Global;
 use std::marker::Brand;
@@ -268,9 +268,9 @@ fn take_a_turn<B: Ports, L: Ledger>(
     ensures { world_shape machine.new.world ≡ world_shape machine.old.world }
 {
     let cpu = CpuId(0);
-    let placed = machine.event(Event::Place { cpu, vcpu: VCPU }, bus, steps);
+    let placed = machine.event(Event::Place { cpu, vcpu: VCPU }, bus, &mut Unwatched, steps);
     assert!(rt; placed.is_ok());
-    let Ok(effect) = machine.event(Event::Run { cpu }, bus, steps) else {
+    let Ok(effect) = machine.event(Event::Run { cpu }, bus, &mut Unwatched, steps) else {
         panic!(rt; "the turn was refused");
     };
     assert!(rt; effect.vcpu == Some(VCPU) && effect.ended.is_none());
@@ -289,9 +289,9 @@ fn is_refused<B: Ports, L: Ledger>(
     requires going { machine.old.stopped ≡ false }
 {
     let cpu = CpuId(0);
-    let placed = machine.event(Event::Place { cpu, vcpu: VCPU }, bus, steps);
+    let placed = machine.event(Event::Place { cpu, vcpu: VCPU }, bus, &mut Unwatched, steps);
     assert!(rt; placed.is_ok());
-    let Err(end) = machine.event(Event::Run { cpu }, bus, steps) else {
+    let Err(end) = machine.event(Event::Run { cpu }, bus, &mut Unwatched, steps) else {
         panic!(rt; "the turn was not refused");
     };
     assert!(rt; end == RunEnd::Device { device: 1 });

@@ -17,6 +17,7 @@ mod status;
 mod status_line;
 mod top;
 mod tracing;
+mod unwatched;
 mod words;
 
 use byte_shelf::{FileShelf, StdSink};

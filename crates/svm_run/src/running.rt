@@ -12,6 +12,7 @@ ghost use Rattle.svm_run.specs.Stops.{AreRead, EndsEvent, EndsEvents, IsOfCounts
 ghost use Rattle.svm_run.specs.declared.words.Work.{Work as WorkRecord};
 
 use crate::dumps::text_of;
+use crate::unwatched::do_event;
 use byte_shelf::{Sink, SinkRefusal, write_all};
 use host_memory::Steps;
 use plain_machine::PlainMachine;
@@ -92,7 +93,7 @@ impl Teller for Dumps {
         let Ok(shown) = text_of(self.alloc, machine, event, steps) else {
             return Err(RunFault::NoMemory);
         };
-        if let Err(end) = machine.event(event, bus, steps) {
+        if let Err(end) = do_event(machine, event, bus, steps) {
             return Err(RunFault::Bus(end));
         }
         let Some(text) = shown else {

@@ -16,6 +16,7 @@ ghost use Rattle.svm_run.specs.declared.words.Work.{Work as WorkRecord};
 use crate::dumps::text_of;
 use crate::report::{push_text, push_vcpu};
 use crate::running::{RunFault, Teller};
+use crate::unwatched::do_event;
 use byte_shelf::{Sink, SinkRefusal, write_all};
 use host_memory::Steps;
 use plain_machine::PlainMachine;
@@ -258,7 +259,7 @@ fn happen<B: Ports, L: Ledger>(
     let before = bus.writes().len();
     let _ = machine.is_well_formed();
     machine.mark_unchanged();
-    let effect = match machine.event(event, bus, steps) {
+    let effect = match do_event(machine, event, bus, steps) {
         Ok(effect) => effect,
         Err(end) => return Err(end),
     };

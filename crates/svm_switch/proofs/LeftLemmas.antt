@@ -1,10 +1,10 @@
 -- The values that fields have once all of them were stored.
-use Rattle.std.proofs.Common.{◌≡◌, ◌≢◌, ◌∙◌, ℕ, Bool, true, false, ◌&&◌, not, List, [], ◌∷◌, ◌++◌, nat_lt, length, map, refl, sym, ap, arith}
+use Rattle.std.proofs.Common.{◌≡◌, ◌≢◌, ◌∙◌, ℕ, Bool, true, false, ◌&&◌, not, List, [], ◌∷◌, nat_lt, length, map, refl, ap, arith}
 use Rattle.std.specs.Prelude.{◌==◌, Option}
 use Rattle.std.specs.List.{list_all}
-use Rattle.std.proofs.lemmas.List.{get_or-set_same, get_or-set_other, length-set, map-append}
+use Rattle.std.proofs.lemmas.List.{get_or-set_same, get_or-set_other, length-set}
 use Rattle.std.proofs.lemmas.Bool.Decides.{nat_tests}
-use Rattle.svm_model.specs.Svm.Vmcb.{Fields, FieldValue, fields_in, value, with_fields, with_value, with_values}
+use Rattle.svm_model.specs.Svm.Vmcb.{Fields, FieldValue, fields_in, value, with_value, with_values}
 use Rattle.svm_model.specs.Svm.VmcbLayout.{layout, number_of}
 use Rattle.svm_model.specs.Svm.Vmexit.{stored_exit, stored_segments, stored_state}
 use Rattle.svm_model.specs.declared.exits.Exit.{Exit}
@@ -15,8 +15,7 @@ use Rattle.svm_model.specs.declared.vmcbs.Field.{Field}
 use Rattle.svm_switch.specs.Left.{left_fields, stored_in_all}
 use Rattle.svm_switch.specs.declared.in_memory.Leaving.{Leaving}
 use Rattle.svm_switch.specs.declared.in_memory.TheConstants.{EXIT_FIELDS}
-use Rattle.svm_switch.proofs.SavedLemmas.{with_fields-append}
-use Rattle.svm_model.specs.Svm.Vmcb.{value_of, values_of}
+use Rattle.svm_model.specs.Svm.Vmcb.{values_of}
 
 abbrev number : FieldValue → ℕ
 number s = number_of s.field
@@ -88,14 +87,3 @@ values-left false r i left v e size =
 pub values-exit : (exit : Exit) (delivering : Option Trap) (v : Fields) → length v.values ≡ 86 → values_of (with_values (stored_exit exit delivering v) v) EXIT_FIELDS ≡ stored_exit exit delivering v
 unfolding stored_exit number_of
 values-exit exit delivering v size = values-stored (stored_exit exit delivering v) v refl size
-
--- these fields of a VMCB are written, with their values
-pub record ArePut (vmcb : ℕ) (v : Fields) (fields : List Field) (old new : List ℕ) : Type 0 where
-  pub put : new ≡ with_fields vmcb (values_of v fields) old
-
--- fields that are written behind others
-pub put-then : {vmcb : ℕ} {v : Fields} {a b : List Field} {old between new : List ℕ} → ArePut vmcb v a old between → ArePut vmcb v b between new → ArePut vmcb v (a ++ b) old new
-put-then {vmcb = vmcb} {v = v} {a = a} {b = b} {old = old} h k = record {
-  put = k.put ∙ ap (with_fields vmcb (values_of v b)) h.put ∙ sym (with_fields-append vmcb (values_of v a) (values_of v b) old)
-      ∙ ap (λ l. with_fields vmcb l old) (sym (map-append (value_of v) a b));
-}

@@ -3,9 +3,9 @@
 //!
 //! It stands on vmcb_layout, whose `Fields` it loads from and stores in, and on svm_model, whose `specs/Svm` and
 //! `specs/Turn/Work.antt` have the definitions. The contracts that the layers above use: `enter` answers `kept_of` and
-//! loads `loaded`; `leave` stores `stored_on_exit` and brings back `brought_back`, and `leave_in_memory` does so in a VMCB in
-//! memory; `next_work` is the definition of its
-//! name; `vmload` loads `vmloaded` from the fields in memory, by 34 reads, and `vmsave` stores `vmsaved` there and changes
+//! loads `loaded`; `leave` stores `stored_on_exit` and brings back `brought_back`; for a VMCB in memory `values_to_leave` has what is
+//! stored, `left_fields` says in which fields, and `leave_in_memory` stores it and brings back; `next_work` is the definition
+//! of its name; `vmload` loads `vmloaded` from the fields in memory, by 34 reads, and `vmsave` stores `vmsaved` there and changes
 //! no other byte, or both give the answer of `moved_at` and change nothing.
 #![tactic(auto)]
 
@@ -18,7 +18,10 @@ mod stores;
 mod work;
 
 pub use entering::enter;
-pub use in_memory::{Leaving, leave_in_memory, refuse_in_memory};
+pub use in_memory::{
+    EXIT_FIELDS, Leaving, leave_in_memory, left_fields, refuse_in_memory, store_refusal,
+    values_to_leave,
+};
 pub use leaving::leave;
 pub use moving::{vmload, vmsave};
 pub use svm_model::{Exit, Kept, Turn, Work};

@@ -1,13 +1,15 @@
 // A turn in its guest's memory.
-ghost use Rattle.std.specs.Prelude.{◌≡◌, ℕ, ◌+◌, ◌*◌, ◌%◌, ◌<◌, ◌≤◌, Bool, true, false, List, Option, is_some, length, IfOk, OnErr, if◌then◌else◌, ◌||◌};
+ghost use Rattle.std.specs.Prelude.{◌≡◌, ℕ, ◌+◌, ◌*◌, ◌%◌, ◌<◌, ◌≤◌, true, not, List, Option, None, is_ok, is_some, length, IfOk, OnErr};
+ghost use Rattle.fault_counts.specs.Causes.{Rose};
 ghost use Rattle.svm_model.specs.Memory.Bytes.{IsWithin, SameOutside, guest_of};
 ghost use Rattle.svm_model.specs.Turn.Course.{Course};
 ghost use Rattle.svm_model.specs.Turn.Play.{frames_after, heard, is_refused, numbered};
 ghost use Rattle.svm_model.specs.declared.names.RunEnd.{RunEnd as RunEndRecord};
+ghost use Rattle.svm_model.specs.declared.ports.PortWrite.{PortWrite as PortWriteRecord};
 ghost use Rattle.svm_model.specs.declared.turns.Translated.{Translated as TranslatedRecord};
 ghost use Rattle.turn_exec.specs.Begun.{nothing};
 ghost use Rattle.turn_exec.specs.Follows.{AreInside, IsInside};
-ghost use Rattle.turn_exec.specs.Plays.{board_with, CallsFrom, Plays, refused_at, SameNames};
+ghost use Rattle.turn_exec.specs.Plays.{board_with, CallsFrom, IsCalled, Plays, refused_at, SameNames};
 
 use crate::apics::{Apics, answer_to};
 use crate::frames::frame_of;
@@ -65,8 +67,8 @@ pub struct GuestTurn<'t, 'm, 'b, 'a, 's, 'o, T: Translator, B: Ports, A: Apics, 
     pub ghost pages: { window.size % 4096 ≡ 0 },
     pub ghost some: { 4096 ≤ window.size },
     pub ghost inside: { AreInside window.size frames.items },
-    /// Where no notice is refused, a refusal is that of a write to a port.
-    pub ghost out: { T.refuses ≡ false → is_some outward.now.refused ≡ is_some outward.now.denied },
+    /// A write to a port that was refused cuts the turn off.
+    pub ghost out: { is_some outward.now.denied ≡ true → is_some outward.now.refused ≡ true },
     /// A call that is granted is one that may cost reads.
     pub ghost few: { outward.now.calls ≤ 1 + spent },
     /// A translation may cost a read at least.
@@ -77,19 +79,24 @@ pub struct GuestTurn<'t, 'm, 'b, 'a, 's, 'o, T: Translator, B: Ports, A: Apics, 
 #[tactic(auto, using(port_bus::proofs::Counts::counts, crate::proofs::Calls::calls))]
 fn hear(found: Result<Translated, NoMemory>, outward: &mut Outward) -> Translated
     requires room { outward.old.calls ≤ 1_000_000 }
-    ensures heard { (before after : List (Option ℕ)) (last_refused : Option RunEndRecord) (last_calls : ℕ) (place : TranslatedRecord) → CallsFrom outward.new.refused outward.new.calls before last_refused last_calls after →
+    ensures heard { (between after : ℕ) (before last_faults : List (Option ℕ)) (last_refused : Option RunEndRecord) (last_denied : Option PortWriteRecord) (last_calls : ℕ) (place : TranslatedRecord) →
+        CallsFrom outward.new.refused outward.new.denied outward.new.calls between before last_refused last_denied last_calls after last_faults →
         IfOk found (λ there. there ≡ place) → heard (is_refused (refused_at last_refused last_calls) outward.old.calls) place ≡ result }
-    ensures counted { (before after : List (Option ℕ)) (last_refused : Option RunEndRecord) (last_calls : ℕ) → CallsFrom outward.new.refused outward.new.calls before last_refused last_calls after →
-        (if is_refused (refused_at last_refused last_calls) outward.old.calls then outward.old.calls else outward.old.calls + 1) ≡ outward.new.calls }
-    ensures cut { (before after : List (Option ℕ)) (last_refused : Option RunEndRecord) (last_calls : ℕ) → CallsFrom outward.new.refused outward.new.calls before last_refused last_calls after →
-        (is_refused (refused_at last_refused last_calls) outward.old.calls || is_some outward.old.refused) ≡ is_some outward.new.refused }
-    ensures calls { (before after : List (Option ℕ)) (last_refused : Option RunEndRecord) (last_calls : ℕ) → CallsFrom outward.new.refused outward.new.calls before last_refused last_calls after →
-        CallsFrom outward.old.refused outward.old.calls before last_refused last_calls after }
+    ensures called { (between after : ℕ) (before last_faults : List (Option ℕ)) (last_refused : Option RunEndRecord) (last_denied : Option PortWriteRecord) (last_calls : ℕ) →
+        CallsFrom outward.new.refused outward.new.denied outward.new.calls between before last_refused last_denied last_calls after last_faults →
+        IsCalled outward.old.calls outward.old.refused last_refused last_calls outward.new.calls outward.new.refused }
+    ensures granted { (between after : ℕ) (before last_faults : List (Option ℕ)) (last_refused : Option RunEndRecord) (last_denied : Option PortWriteRecord) (last_calls : ℕ) →
+        CallsFrom outward.new.refused outward.new.denied outward.new.calls between before last_refused last_denied last_calls after last_faults →
+        last_refused ≡ None → is_ok found ≡ true }
+    ensures calls { (first between after : ℕ) (before last_faults : List (Option ℕ)) (last_refused : Option RunEndRecord) (last_denied : Option PortWriteRecord) (last_calls : ℕ) →
+        first ≤ between → OnErr found (Rose first between) →
+        CallsFrom outward.new.refused outward.new.denied outward.new.calls between before last_refused last_denied last_calls after last_faults →
+        CallsFrom outward.old.refused outward.old.denied outward.old.calls first before last_refused last_denied last_calls after last_faults }
     ensures inside { (size : ℕ) → IfOk found (λ there. IsInside size there) → IsInside size result }
     ensures few { outward.new.calls ≤ outward.old.calls + 1 }
     ensures denied { outward.new.denied ≡ outward.old.denied }
     ensures sent { outward.new.sent ≡ outward.old.sent }
-    ensures kept { (refuses : Bool) → OnErr found (refuses ≡ true) → refuses ≡ false → is_some outward.new.refused ≡ is_some outward.old.refused }
+    ensures kept { is_some outward.old.refused ≡ true → is_some outward.new.refused ≡ true }
 {
     if outward.refused.is_some() {
         return Translated::Outside { address: 0 };
@@ -102,6 +109,43 @@ fn hear(found: Result<Translated, NoMemory>, outward: &mut Outward) -> Translate
         Err(_) => {
             outward.refused = Some(RunEnd::NoMemory);
             Translated::Outside { address: 0 }
+        }
+    }
+}
+
+/// Whether a flush whose notice may be refused is done; none is behind a refusal.
+#[tactic(auto, using(port_bus::proofs::Counts::counts, crate::proofs::Calls::calls))]
+fn grant(dropped: Result<(), NoMemory>, outward: &mut Outward) -> bool
+    requires room { outward.old.calls ≤ 1_000_000 }
+    ensures done { (between after : ℕ) (before last_faults : List (Option ℕ)) (last_refused : Option RunEndRecord) (last_denied : Option PortWriteRecord) (last_calls : ℕ) →
+        CallsFrom outward.new.refused outward.new.denied outward.new.calls between before last_refused last_denied last_calls after last_faults →
+        not (is_refused (refused_at last_refused last_calls) outward.old.calls) ≡ result }
+    ensures called { (between after : ℕ) (before last_faults : List (Option ℕ)) (last_refused : Option RunEndRecord) (last_denied : Option PortWriteRecord) (last_calls : ℕ) →
+        CallsFrom outward.new.refused outward.new.denied outward.new.calls between before last_refused last_denied last_calls after last_faults →
+        IsCalled outward.old.calls outward.old.refused last_refused last_calls outward.new.calls outward.new.refused }
+    ensures granted { (between after : ℕ) (before last_faults : List (Option ℕ)) (last_refused : Option RunEndRecord) (last_denied : Option PortWriteRecord) (last_calls : ℕ) →
+        CallsFrom outward.new.refused outward.new.denied outward.new.calls between before last_refused last_denied last_calls after last_faults →
+        last_refused ≡ None → is_ok dropped ≡ true }
+    ensures calls { (first between after : ℕ) (before last_faults : List (Option ℕ)) (last_refused : Option RunEndRecord) (last_denied : Option PortWriteRecord) (last_calls : ℕ) →
+        first ≤ between → OnErr dropped (Rose first between) →
+        CallsFrom outward.new.refused outward.new.denied outward.new.calls between before last_refused last_denied last_calls after last_faults →
+        CallsFrom outward.old.refused outward.old.denied outward.old.calls first before last_refused last_denied last_calls after last_faults }
+    ensures few { outward.new.calls ≤ outward.old.calls + 1 }
+    ensures denied { outward.new.denied ≡ outward.old.denied }
+    ensures sent { outward.new.sent ≡ outward.old.sent }
+    ensures kept { is_some outward.old.refused ≡ true → is_some outward.new.refused ≡ true }
+{
+    if outward.refused.is_some() {
+        return false;
+    }
+    match dropped {
+        Ok(()) => {
+            outward.calls += 1;
+            true
+        }
+        Err(_) => {
+            outward.refused = Some(RunEnd::NoMemory);
+            false
         }
     }
 }
@@ -134,10 +178,10 @@ fn numbered(number: u8, found: Translated) -> Translation
 impl<'t, 'm, 'b, 'a, 's, 'o, T: Translator, B: Ports, A: Apics, L: Ledger> Reach
     for GuestTurn<'t, 'm, 'b, 'a, 's, 'o, T, B, A, L> {
     ghost plays = { λ m course last vcpu stepped.
-        SameNames m.translator.ghost_name last.translator.ghost_name m.memory.ghost_name last.memory.ghost_name m.bus.ghost_name last.bus.ghost_name m.apics.ghost_name last.apics.ghost_name m.steps.ghost_name last.steps.ghost_name m.outward.ghost_name last.outward.ghost_name
+        SameNames m.translator.ghost_name last.translator.ghost_name m.memory.ghost_name last.memory.ghost_name m.bus.ghost_name last.bus.ghost_name m.apics.ghost_name last.apics.ghost_name m.steps.ghost_name last.steps.ghost_name m.outward.ghost_name last.outward.ghost_name (T.name m.translator.now) (T.name last.translator.now)
         × (((last.steps.now + T.cost * m.spent ≤ m.steps.now + T.cost * last.spent) × (m.steps.now ≤ last.steps.now))
-        × (CallsFrom m.outward.now.refused m.outward.now.calls (B.faults m.bus.now) last.outward.now.refused last.outward.now.calls (B.faults last.bus.now)
-        × Plays T.stands T.copies T.rule m.space m.window m.translator.now m.memory.now (board_with (B.bus m.bus.now) (A.apic m.apics.now) m.outward.now.sent m.outward.now.calls m.outward.now.refused m.outward.now.denied) m.frames.items course
+        × (CallsFrom m.outward.now.refused m.outward.now.denied m.outward.now.calls (T.refusals m.translator.now) (B.faults m.bus.now) last.outward.now.refused last.outward.now.denied last.outward.now.calls (T.refusals last.translator.now) (B.faults last.bus.now)
+        × Plays T.stands T.tells T.copies T.rule m.space m.window m.translator.now m.memory.now (board_with (B.bus m.bus.now) (A.apic m.apics.now) m.outward.now.sent m.outward.now.calls m.outward.now.refused m.outward.now.denied) m.frames.items course
         last.translator.now last.memory.now (board_with (B.bus last.bus.now) (A.apic last.apics.now) last.outward.now.sent last.outward.now.calls last.outward.now.refused last.outward.now.denied) last.outward.now.refused vcpu stepped)) };
 
     ghost spent = { λ m. m.spent };
@@ -197,19 +241,7 @@ impl<'t, 'm, 'b, 'a, 's, 'o, T: Translator, B: Ports, A: Apics, L: Ledger> Reach
     fn flush(&mut self, flush: Flush) -> bool {
         self.spent += 1;
         let dropped = self.translator.flush(flush);
-        if self.outward.refused.is_some() {
-            return false;
-        }
-        match dropped {
-            Ok(()) => {
-                self.outward.calls += 1;
-                true
-            }
-            Err(_) => {
-                self.outward.refused = Some(RunEnd::NoMemory);
-                false
-            }
-        }
+        grant(dropped, self.outward)
     }
 
     #[tactic(auto, using(svm_model::proofs::WindowLemmas::windows, port_bus::proofs::Counts::counts))]

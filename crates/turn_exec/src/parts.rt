@@ -1,5 +1,6 @@
 // Translates parts of pages, and reads and writes in their frames.
-ghost use Rattle.std.specs.Prelude.{◌≡◌, ℕ, ◌+◌, ◌*◌, ◌/◌, ◌%◌, ◌^◌, ◌<◌, ◌≤◌, List, length, take, drop, true, IfOk, OnErr};
+ghost use Rattle.std.specs.Prelude.{◌≡◌, ℕ, ◌+◌, ◌*◌, ◌/◌, ◌%◌, ◌^◌, ◌<◌, ◌≤◌, List, length, take, drop, IfOk, OnErr};
+ghost use Rattle.fault_counts.specs.Causes.{Rose};
 ghost use Rattle.svm_model.specs.Memory.Bytes.{IsWithin, SameOutside, guest_of, put_at};
 ghost use Rattle.svm_model.specs.Memory.PhysicalAnswers.{IsPhysical};
 ghost use Rattle.svm_model.specs.Turn.Course.{Told, told_of};
@@ -93,9 +94,11 @@ pub fn translate_part<T: Translator, L: Ledger>(
     requires pages { window.size % 4096 ≡ 0 }
     ensures finds { (history : List Told) → T.stands translator.old history →
         Needs T.copies (T.rule history (told_of space.now (guest_of window memory.old.bytes) (access_of part))) →
-        Finds T.stands space.now (guest_of window memory.old.bytes) part history result translator.new (guest_of window memory.new.bytes) }
+        Finds T.stands T.tells space.now (guest_of window memory.old.bytes) part history translator.old result translator.new (guest_of window memory.new.bytes) }
     ensures inside { IfOk result (λ found. IsInside window.size found) }
-    ensures refused { OnErr result (T.refuses ≡ true) }
+    ensures refused { OnErr result (Rose (T.refusals translator.old) (T.refusals translator.new)) }
+    ensures none_fell { T.refusals translator.old ≤ T.refusals translator.new }
+    ensures name { T.name translator.new ≡ T.name translator.old }
     ensures others { SameOutside window memory.old memory.new }
     ensures steps { steps.new ≤ steps.old + T.cost }
     ensures later { steps.old ≤ steps.new }

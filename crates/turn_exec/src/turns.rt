@@ -1,6 +1,6 @@
 // The turn of a vcpu in its guest's memory.
 ghost use Rattle.std.specs.Option.{option_copied};
-ghost use Rattle.std.specs.Prelude.{◌*◌, ◌≡◌, ◌+◌, ◌%◌, ◌≤◌, [], false, is_some, List, None};
+ghost use Rattle.std.specs.Prelude.{◌*◌, ◌≡◌, ◌+◌, ◌%◌, ◌≤◌, [], true, is_some, List, None};
 ghost use Rattle.port_bus.specs.Causes.{NoneFell};
 ghost use Rattle.svm_model.specs.Memory.Bytes.{IsWithin, SameOutside, guest_of};
 ghost use Rattle.svm_model.specs.Turn.Course.{Told};
@@ -8,7 +8,7 @@ ghost use Rattle.svm_model.specs.Turn.Play.{play};
 ghost use Rattle.svm_model.specs.Turn.Work.{turn_course};
 ghost use Rattle.turn_exec.specs.Begun.{begun};
 ghost use Rattle.turn_exec.specs.Follows.{Ensues};
-ghost use Rattle.turn_exec.specs.Plays.{board_with, IsBlamed, refused_at};
+ghost use Rattle.turn_exec.specs.Plays.{board_with, IsBlamed, IsCause, refused_at};
 
 use crate::apics::Apics;
 use crate::control::Control;
@@ -51,14 +51,17 @@ pub fn take_turn<T: Translator, B: Ports, A: Apics, L: Ledger>(
     requires begun { outward.old ≡ begun outward.old.calls }
     requires few { outward.old.calls ≤ 1 }
     ensures follows { (history : List Told) → T.stands translator.old history →
-        Ensues T.stands T.copies T.rule (play (record { space = space.now; refused = refused_at outward.new.refused outward.new.calls }) (board_with (B.bus bus.old) (A.apic apics.old) None outward.old.calls None None) (guest_of window memory.old.bytes) []
+        Ensues T.stands T.tells T.copies T.rule outward.new.refused (play (record { space = space.now; refused = refused_at outward.new.refused outward.new.calls }) (board_with (B.bus bus.old) (A.apic apics.old) None outward.old.calls None None) (guest_of window memory.old.bytes) []
         (turn_course (option_copied control.entry) facts.now vcpu.old interrupt))
-        history translator.new (guest_of window memory.new.bytes) (board_with (B.bus bus.new) (A.apic apics.new) outward.new.sent outward.new.calls outward.new.refused outward.new.denied) vcpu.new stepped.new }
+        history translator.old translator.new (guest_of window memory.new.bytes) (board_with (B.bus bus.new) (A.apic apics.new) outward.new.sent outward.new.calls outward.new.refused outward.new.denied) vcpu.new stepped.new }
     ensures others { SameOutside window memory.old memory.new }
     ensures none_fell { NoneFell (B.faults bus.old) (B.faults bus.new) }
     ensures more { outward.old.calls ≤ outward.new.calls }
     ensures few { outward.new.calls ≤ 226 }
-    ensures out { T.refuses ≡ false → is_some outward.new.refused ≡ is_some outward.new.denied }
+    ensures out { is_some outward.new.denied ≡ true → is_some outward.new.refused ≡ true }
+    ensures cause { IsCause outward.new.refused outward.new.denied (T.refusals translator.old) (T.refusals translator.new) }
+    ensures none_refused { T.refusals translator.old ≤ T.refusals translator.new }
+    ensures name { T.name translator.new ≡ T.name translator.old }
     ensures blamed { IsBlamed outward.new.refused (B.faults bus.old) (B.faults bus.new) }
     ensures steps { steps.new ≤ steps.old + T.cost * 225 }
     ensures later { steps.old ≤ steps.new }

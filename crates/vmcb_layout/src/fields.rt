@@ -36,6 +36,15 @@ impl Fields {
         Fields { values: [0; 86] }
     }
 
+    /// The same values once more.
+    pub fn copied(&self) -> Fields
+        ensures { result ≡ self.now }
+    {
+        Fields {
+            values: self.values,
+        }
+    }
+
     /// The value of a field.
     #[tactic(auto, unfolding(svm_model::specs::Svm::Vmcb::value))]
     pub fn value(&self, field: Field) -> u64

@@ -44,8 +44,14 @@ returns-clause-ended g c = if_ok c.turn_guest.result _ _ (λ end e. at_place g c
 pub returns-clause-reached : goal.returns-clause-reached
 returns-clause-reached g c = if_err c.turn_guest.result _ _ (λ cut e. at_place g c _ (changed g c _ e)) c.turn_guest.ensures.reached
 
-pub returns-clause-out : goal.returns-clause-out
-returns-clause-out g c = if_err c.turn_guest.result _ _ (λ cut out. at_place g c _ out) c.turn_guest.ensures.out
+pub returns-clause-told : goal.returns-clause-told
+returns-clause-told g c = on_ok c.turn_guest.result _ _ (λ h. at_place g c _ h) c.turn_guest.ensures.told
+
+pub returns-clause-bus_reached : goal.returns-clause-bus_reached
+returns-clause-bus_reached g c = if_err c.turn_guest.result _ _ (λ cut e. at_place g c _ e) c.turn_guest.ensures.bus_reached
+
+pub returns-clause-cut : goal.returns-clause-cut
+returns-clause-cut g c = if_err c.turn_guest.result _ _ (λ cut h. at_place g c _ h) c.turn_guest.ensures.cut
 
 pub returns-clause-layouts : goal.returns-clause-layouts
 returns-clause-layouts g c = slot_layouts c.args.slots.now _ c.index-slots-from.result _ (below g c) c.turn_guest.ensures.layout

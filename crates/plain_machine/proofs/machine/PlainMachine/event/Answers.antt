@@ -1,11 +1,15 @@
 -- The timers ring, and then the event happens; one that is cut off leaves the ends that were given.
 use Rattle.std.proofs.Common.{◌≡◌, ◌∙◌, ◌+◌, ℕ, Some, ap, sym, subst, arith, slice_get}
-use Rattle.svm_model.specs.Machine.Events.{event_of}
+use Rattle.svm_model.specs.Audit.WatchCalls.{event_notices, told_notices, turn_in}
+use Rattle.svm_model.specs.Machine.Events.{event_of, with_timers}
 use Rattle.svm_model.specs.Machine.Runs.{end_of_guest, reached_of}
 use Rattle.svm_model.specs.Machine.Shapes.{Shape, IsNamed, world_shape}
 use Rattle.svm_model.specs.Machine.World.{World}
 use Rattle.svm_model.proofs.EndLemmas.{event-ends_stay, reached-ends_stay}
+use Rattle.watch.specs.Leads.{Leads}
+use Rattle.plain_machine.specs.Cuts.{IsCutOf, bus_reached_of}
 use Rattle.plain_machine.specs.Machines.{Machine}
+use Rattle.plain_machine.proofs.CutLemmas.{cut-timed}
 use Rattle.plain_machine.specs.Others.{OthersStay}
 use Rattle.plain_machine.proofs.OtherLemmas.{event-others, reached-others}
 use Rattle.plain_machine.proofs.machine.PlainMachine.event.Goals as goal
@@ -54,3 +58,21 @@ returns-in-Err-clause-others g c =
 
 pub returns-in-Err-clause-shape : goal.returns-in-Err-clause-shape
 returns-in-Err-clause-shape g c = ap (λ (m : Machine). world_shape m.world) c.self.view_is ∙ (c.happen.ensures.shape ∙ c.ring_timers.ensures.shape)
+
+pub returns-in-Ok-clause-told : goal.returns-in-Ok-clause-told
+unfolding event_notices with_timers
+returns-in-Ok-clause-told g c =
+    let bus = g.B.Ports.bus c.args.bus.now in
+    subst (λ (w : World). Leads g.W.Watch.tells c.args.watch.now (told_notices (turn_in w c.args.event (event_of w bus c.args.event).effect.vcpu) (event_of w bus c.args.event).told) c.happen.new.watch) c.ring_timers.ensures.timers c.in-Ok.ensures.told
+
+pub returns-in-Err-clause-cut : goal.returns-in-Err-clause-cut
+returns-in-Err-clause-cut g c =
+    let bus = g.B.Ports.bus c.args.bus.now in
+    let call = c.in-Err.cut.call in
+    let timers = c.ring_timers.ensures.timers in (
+      call,
+      ap (λ (m : Machine). m.world) c.self.view_is ∙ (c.in-Err.ensures.reached ∙ ap (λ (w : World). reached_of call w bus c.args.event) timers),
+      c.in-Err.ensures.bus_reached ∙ ap (λ (w : World). bus_reached_of call w bus c.args.event) timers,
+      cut-timed call c.args.self.now.world bus (g.B.Ports.bus c.happen.new.bus) c.args.event _ _
+          (subst (λ (w : World). IsCutOf call w bus c.args.event (g.B.Ports.bus c.happen.new.bus) (g.W.Watch.refusals c.args.watch.now) (g.W.Watch.refusals c.happen.new.watch)) timers c.in-Err.ensures.cut),
+    )

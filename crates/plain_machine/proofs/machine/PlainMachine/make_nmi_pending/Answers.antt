@@ -4,7 +4,7 @@ use Rattle.svm_model.specs.Machine.Shapes.{world_shape}
 use Rattle.plain_machine.specs.Machines.{Machine}
 use Rattle.plain_machine.specs.Slots.{Kept, guests_at, layouts}
 use Rattle.svm_model.proofs.WindowLemmas.{are_marked}
-use Rattle.plain_machine.proofs.MarkLemmas.{told-written}
+use Rattle.plain_machine.proofs.MarkLemmas.{marked-written}
 use Rattle.plain_machine.proofs.Worlds.{named_vcpu, shape-written}
 use Rattle.plain_machine.proofs.machine.PlainMachine.make_nmi_pending.Goals as goal
 
@@ -25,12 +25,12 @@ returns-clause-shape c =
     shape-written (length c.self.inside.placing.items) bytes bytes old new _ long c.self.invariant.0 same refl
     ∙ ap (λ (m : Machine). world_shape m.world) c.self.view_is
 
-pub returns-clause-told : goal.returns-clause-told
-returns-clause-told c =
+pub returns-clause-marked : goal.returns-clause-marked
+returns-clause-marked c =
     let memory = c.self.inside.memory in
     let old = c.self.inside.guests.items in
     let new = c.make_nmi_pending.new.slots in
     let long : length new ≡ c.self.inside.guests.len = omega (arith, c.make_nmi_pending.auto.slots, c.deref_mut.ensures.len) in
     let same : layouts new ≡ layouts old = c.make_nmi_pending.ensures.layouts ∙ ap layouts c.deref_mut.ensures.value in
-    told-written memory memory old new _ _ _ long c.self.invariant.0 same (are_marked memory)
+    marked-written memory memory old new _ _ _ long c.self.invariant.0 same (are_marked memory)
     (ap (λ (m : Machine). m.world.guests) (sym c.self.view_is)) (ap (λ (m : Machine). m.marks) (sym c.self.view_is)) refl refl

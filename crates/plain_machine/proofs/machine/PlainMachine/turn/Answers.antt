@@ -1,5 +1,9 @@
 use Rattle.std.proofs.Common.{◌≡◌, ◌∙◌, ℕ, List, Option, Some, None, length, map, take, drop, ◌++◌, ap, sym, subst, refl, arith, slice_get, slice_set, IfSome}
+use Rattle.svm_model.specs.Audit.WatchCalls.{notices}
 use Rattle.svm_model.specs.Machine.Guest.{Guest}
+use Rattle.svm_model.specs.Turn.Course.{Told}
+use Rattle.watch.specs.Leads.{Leads}
+use Rattle.plain_machine.specs.Cuts.{IsCutBy}
 use Rattle.svm_model.specs.Machine.Shapes.{world_shape}
 use Rattle.svm_model.specs.Machine.Runs.{IsOut}
 use Rattle.svm_model.specs.Machine.Turns.{turn_of}
@@ -9,8 +13,8 @@ use Rattle.plain_machine.specs.GuestTurns.{guest_turn}
 use Rattle.plain_machine.specs.Machines.{Machine}
 use Rattle.plain_machine.proofs.GuestTurnLemmas.{on_ok, if_ok, if_err}
 use Rattle.plain_machine.specs.Slots.{Kept, guest_at, guests_at, layouts}
-use Rattle.plain_machine.proofs.MarkLemmas.{told-written}
-use Rattle.plain_machine.proofs.Worlds.{guest_there, named_place, named_vcpu, shape-written, slot_there, in_world, moment_of, out_in_world, InWorld}
+use Rattle.plain_machine.proofs.MarkLemmas.{marked-written}
+use Rattle.plain_machine.proofs.Worlds.{guest_there, named_place, named_vcpu, shape-written, slot_there, in_world, moment_of, cut_in_world, InWorld}
 use Rattle.plain_machine.proofs.machine.PlainMachine.turn.Given.{Over}
 use Rattle.plain_machine.proofs.machine.PlainMachine.turn.Goals as goal
 
@@ -80,12 +84,26 @@ returns-clause-ended g c =
 pub returns-clause-reached : goal.returns-clause-reached
 returns-clause-reached g c = if_err c.turn_in.result _ _ (λ cut h. behind g c (Some cut.call) (said g c _ h)) c.turn_in.ensures.reached
 
-pub returns-clause-out : goal.returns-clause-out
-returns-clause-out g c =
+pub returns-clause-heard : goal.returns-clause-heard
+returns-clause-heard g c =
+    on_ok c.turn_in.result _ _ (λ h.
+    subst (λ (ts : List Told). Leads g.W.Watch.tells c.args.walking.now.watch.now (notices c.args.walking.now.turn ts) c.turn_in.new.walking.watch.now)
+    (sym (in_guest g c None).told_is ∙ ap (λ (w : World). (turn_of None w (g.B.Ports.bus c.args.bus.now) c.args.vcpu).told) (before g c)) (said g c _ h)) c.turn_in.ensures.told
+
+pub returns-clause-bus_reached : goal.returns-clause-bus_reached
+returns-clause-bus_reached g c =
+    if_err c.turn_in.result _ _ (λ cut h. said g c _ h ∙ sym (in_guest g c (Some cut.call)).bus_is ∙ ap (λ (w : World). (turn_of (Some cut.call) w (g.B.Ports.bus c.args.bus.now) c.args.vcpu).bus) (before g c)) c.turn_in.ensures.bus_reached
+
+pub returns-clause-cut : goal.returns-clause-cut
+returns-clause-cut g c =
+    let bus = g.B.Ports.bus c.args.bus.now in
+    let new = g.B.Ports.bus c.turn_in.new.bus in
+    let refusals = g.W.Watch.refusals c.args.walking.now.watch.now in
+    let later = g.W.Watch.refusals c.turn_in.new.walking.watch.now in
     if_err c.turn_in.result _ _ (λ cut h.
-    subst (λ (w : World). IsOut cut.call w (g.B.Ports.bus c.args.bus.now) c.args.vcpu) (before g c)
-    (out_in_world cut.call (world_over g c c.self.inside.memory.bytes c.deref_mut.result.now) (g.B.Ports.bus c.args.bus.now) c.args.vcpu (guest_at c.self.inside.memory.bytes (there g c).0)
-    (guest_there c.self.inside.memory.bytes c.deref_mut.result.now c.args.vcpu.guest.0 (there g c).0 (there g c).1) (said g c _ h))) c.turn_in.ensures.out
+    subst (λ (w : World). IsCutBy (IsOut cut.call w bus c.args.vcpu) (Unit {0}) bus new refusals later) (before g c)
+    (cut_in_world cut.call (world_over g c c.self.inside.memory.bytes c.deref_mut.result.now) bus new c.args.vcpu (guest_at c.self.inside.memory.bytes (there g c).0) refusals later
+    (guest_there c.self.inside.memory.bytes c.deref_mut.result.now c.args.vcpu.guest.0 (there g c).0 (there g c).1) (said g c _ h))) c.turn_in.ensures.cut
 
 pub returns-clause-shape : goal.returns-clause-shape
 returns-clause-shape g c =
@@ -96,11 +114,11 @@ returns-clause-shape g c =
     shape-written (length c.self.inside.placing.items) c.self.inside.memory.bytes c.turn_in.new.memory.bytes old new _ long c.self.invariant.0 same c.turn_in.ensures.size
     ∙ ap (λ (m : Machine). world_shape m.world) c.self.view_is
 
-pub returns-clause-told : goal.returns-clause-told
-returns-clause-told g c =
+pub returns-clause-marked : goal.returns-clause-marked
+returns-clause-marked g c =
     let old = c.self.inside.guests.items in
     let new = c.turn_in.new.slots in
     let long : length new ≡ c.self.inside.guests.len = omega (arith, c.turn_in.auto.slots, c.deref_mut.ensures.len) in
     let same : layouts new ≡ layouts old = c.turn_in.ensures.layouts ∙ ap layouts c.deref_mut.ensures.value in
-    told-written c.self.inside.memory c.turn_in.new.memory old new _ _ _ long c.self.invariant.0 same c.turn_in.ensures.marked
+    marked-written c.self.inside.memory c.turn_in.new.memory old new _ _ _ long c.self.invariant.0 same c.turn_in.ensures.marked
     (ap (λ (m : Machine). m.world.guests) (sym c.self.view_is)) (ap (λ (m : Machine). m.marks) (sym c.self.view_is)) refl refl
