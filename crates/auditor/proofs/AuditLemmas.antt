@@ -10,6 +10,7 @@ use Rattle.svm_model.specs.Machine.World.{World}
 use Rattle.svm_model.specs.declared.audits.Breach.{Breach}
 use Rattle.svm_model.specs.declared.audits.Verdict.TheVariants.{Breach as Broken, Keeps}
 use Rattle.svm_model.specs.declared.names.Event.{Event}
+use Rattle.svm_model.specs.declared.names.RunEnd.{RunEnd}
 use Rattle.svm_model.specs.declared.names.VcpuId.{VcpuId}
 use Rattle.auditor.specs.CutOffs.{IsCutAt, IsCutOff}
 use Rattle.auditor.specs.Steps.{breach_at, known_at}
@@ -94,11 +95,11 @@ module _ (w : World) (bus : Bus) where
         broken_bus new is = is ∙ ap (λ (a : Audited). a.bus) (sym broken)
 
       -- an event that is cut off cuts off the audit
-      pub cut_here : (new : Bus) → IsCutAt v now event new → IsCutOff w bus events new
-      cut_here new cut = record {
+      pub cut_here : (end : RunEnd) (new : Bus) → IsCutAt end v now event new → IsCutOff end w bus events new
+      cut_here end new cut = record {
         count = n;
         keeps = ap (λ (a : Audited). a.breach) (kept_alone (take n events) known v now kept);
         event = event;
         next = there;
-        cut = subst (λ (l : Led). IsCutAt l.world l.bus event new) (sym kept.led) cut;
+        cut = subst (λ (l : Led). IsCutAt end l.world l.bus event new) (sym kept.led) cut;
       }

@@ -1,5 +1,5 @@
 // The audit of a script's events, from the world of an image.
-ghost use Rattle.std.specs.Prelude.{◌≡◌, ℕ, ◌+◌, ◌*◌, ◌≤◌, ◌<◌, false, length, is_err, OnOk, OnErr, IfOk, IfErr};
+ghost use Rattle.std.specs.Prelude.{◌≡◌, ℕ, ◌+◌, ◌*◌, ◌≤◌, ◌<◌, false, length, is_err, OnOk, IfOk, IfErr};
 ghost use Rattle.svm_model.specs.Audit.Verdicts.{audit_of, verdict_of};
 ghost use Rattle.svm_model.specs.Formats.LawfulImages.{IsLawfulImage};
 ghost use Rattle.svm_model.specs.Formats.Script.{IsLawful, events_of};
@@ -34,7 +34,7 @@ fn audit_event<B: Ports, L: Ledger>(
     ensures world { OnOk result (machine.new.world ≡ (plain_event machine.old.world (B.bus bus.old) event).world) }
     ensures bus { OnOk result (B.bus bus.new ≡ (plain_event machine.old.world (B.bus bus.old) event).bus) }
     ensures breach { IfOk result (λ breach. IsAudited memory.old machine.old.world (B.bus bus.old) event breach memory.new) }
-    ensures cut { OnErr result (IsCutAt machine.old.world (B.bus bus.old) event (B.bus bus.new)) }
+    ensures cut { IfErr result (λ end. IsCutAt end machine.old.world (B.bus bus.old) event (B.bus bus.new)) }
     ensures blamed { IfErr result (λ end. Blames end (B.faults bus.old) (B.faults bus.new)) }
     ensures none_fell { NoneFell (B.faults bus.old) (B.faults bus.new) }
     ensures going { machine.new.stopped ≡ is_err result }
@@ -66,7 +66,7 @@ fn audit_events<B: Ports, L: Ledger>(
     requires going { machine.old.stopped ≡ false }
     ensures verdict { IfOk result (λ verdict. verdict ≡ verdict_of script.now.events (audit_of machine.old.world (B.bus bus.old) (events_of cpus script.now)).breach) }
     ensures bus { OnOk result (B.bus bus.new ≡ (audit_of machine.old.world (B.bus bus.old) (events_of cpus script.now)).bus) }
-    ensures cut { OnErr result (IsCutOff machine.old.world (B.bus bus.old) (events_of cpus script.now) (B.bus bus.new)) }
+    ensures cut { IfErr result (λ end. IsCutOff end machine.old.world (B.bus bus.old) (events_of cpus script.now) (B.bus bus.new)) }
     ensures blamed { IfErr result (λ end. Blames end (B.faults bus.old) (B.faults bus.new)) }
     ensures none_fell { NoneFell (B.faults bus.old) (B.faults bus.new) }
     ensures steps { steps.new ≤ steps.old + 6368 * script.now.events }

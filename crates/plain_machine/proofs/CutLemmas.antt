@@ -1,9 +1,10 @@
 -- What cut an event off: when its timers have rung, and where nobody refuses a notice.
-use Rattle.std.proofs.Common.{◌≡◌, ℕ, inl, inr, Result, Ok, Err, OnErr, arith}
+use Rattle.std.proofs.Common.{◌≡◌, ℕ, inl, inr, Result, Ok, Err, IfErr, OnErr, arith}
 use Rattle.svm_model.specs.Machine.Bus.{Bus}
 use Rattle.svm_model.specs.Machine.Events.{with_timers}
 use Rattle.svm_model.specs.Machine.World.{World}
 use Rattle.svm_model.specs.declared.names.Event.{Event}
+use Rattle.svm_model.specs.declared.names.RunEnd.{RunEnd}
 use Rattle.svm_model.specs.declared.names.Event.TheVariants.{Place, Run, Feed, Irq, Nmi, Unplug, Dump}
 use Rattle.plain_machine.specs.Cuts.{HasTurn, IsCut, IsCutBy, IsCutOf}
 
@@ -18,18 +19,18 @@ has_turn w (Nmi id) h = h
 has_turn w (Unplug device) h = h
 has_turn w (Dump guest address count) h = h
 
-pub cut-timed : (call : ℕ) (w : World) (bus new : Bus) (event : Event) (refusals later : ℕ) → IsCutOf call (with_timers w) bus event new refusals later → IsCut call w bus event new refusals later
-cut-timed call w bus new event refusals later (inl out) = inl out
-cut-timed call w bus new event refusals later (inr unheard) = inr (has_turn w event unheard.0, unheard.1)
+pub cut-timed : (call : ℕ) (w : World) (end : RunEnd) (bus new : Bus) (event : Event) (refusals later : ℕ) → IsCutOf call (with_timers w) bus event end new refusals later → IsCut call w bus event end new refusals later
+cut-timed call w end bus new event refusals later (inl out) = inl out
+cut-timed call w end bus new event refusals later (inr unheard) = inr (has_turn w event unheard.0, unheard.1, unheard.2)
 
-pub err-then : {T E : Type 0} (r : Result T E) (A B : Type 0) → (A → B) → OnErr r A → OnErr r B
+pub err-then : {T E : Type 0} (r : Result T E) (A : E → Type 0) (B : Type 0) → ((e : E) → A e → B) → IfErr r A → OnErr r B
 err-then (Ok x) A B f a = tt
-err-then (Err e) A B f a = f a
+err-then (Err e) A B f a = f e a
 
-pub handed-over : {Out Turn : Type 0} {bus new : Bus} → IsCutBy Out Turn bus new 0 0 → Out
+pub handed-over : {Out Turn : Type 0} {end : RunEnd} {bus new : Bus} → IsCutBy Out Turn end bus new 0 0 → Out
 handed-over (inl out) = out.0
-handed-over (inr unheard) = absurd (omega (arith, unheard.1))
+handed-over (inr unheard) = absurd (omega (arith, unheard.2))
 
-pub kept-so : {Out Turn : Type 0} {bus new : Bus} → IsCutBy Out Turn bus new 0 0 → new ≡ bus
+pub kept-so : {Out Turn : Type 0} {end : RunEnd} {bus new : Bus} → IsCutBy Out Turn end bus new 0 0 → new ≡ bus
 kept-so (inl out) = out.1
-kept-so (inr unheard) = absurd (omega (arith, unheard.1))
+kept-so (inr unheard) = absurd (omega (arith, unheard.2))

@@ -74,7 +74,7 @@ pub record Comes {W : Type 0} (tells : W → Notice → W → Type 0) (turn : Tu
   pub heard : OnOk result (Leads tells watch (notices turn (guest_turn None m old guest).told) told)
   pub reached : IfErr result (λ cut. after ≡ (guest_turn (Some cut.call) m old guest).guest)
   pub bus_reached : IfErr result (λ cut. new ≡ (guest_turn (Some cut.call) m old guest).bus)
-  pub cut : IfErr result (λ cut. IsCutBy (IsOutIn cut.call m old guest) (Unit {0}) old new refusals after_refusals)
+  pub cut : IfErr result (λ cut. IsCutBy (IsOutIn cut.call m old guest) (Unit {0}) cut.end old new refusals after_refusals)
   pub blamed : IfErr result (λ cut. Blames cut.end faults later)
 
 -- what the executor's turn of the vcpu gave, and what came of its outward calls
@@ -112,8 +112,8 @@ gives_guest refused m bus new guest vcpu after apic gone memory calls end denied
 was_cut : (m : Moment) (bus new : Bus) (guest : Guest) (refusals later calls : ℕ) (end : RunEnd) (denied : Option PortWrite) (vcpu : Vcpu) (apic : Apic) →
     guest.ended ≡ None → slice_get guest.vcpus m.vcpu.index ≡ Some vcpu → slice_get guest.apics m.vcpu.index ≡ Some apic →
     (guest_turn (Some calls) m bus guest).denied ≡ denied → IsCause (Some end) denied refusals later → IfSome denied (λ write. new ≡ bus) →
-    IfSome denied (λ write. GrantsLast calls bus write (turned None (facts_in m vcpu apic) (board_of bus apic) guest.memory vcpu)) → IsCutBy (IsOutIn calls m bus guest) (Unit {0}) bus new refusals later
-was_cut m bus new guest refusals later calls end None vcpu apic e v a told cause kept last = inr (tt, cause.1)
+    IfSome denied (λ write. GrantsLast calls bus write (turned None (facts_in m vcpu apic) (board_of bus apic) guest.memory vcpu)) → IsCutBy (IsOutIn calls m bus guest) (Unit {0}) end bus new refusals later
+was_cut m bus new guest refusals later calls end None vcpu apic e v a told cause kept last = inr (tt, cause.0, cause.1)
 was_cut m bus new guest refusals later calls end (Some write) vcpu apic e v a told cause kept last =
     let whole = live None m bus guest vcpu apic e v a in
     inl (

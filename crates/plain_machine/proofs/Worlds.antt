@@ -11,6 +11,7 @@ use Rattle.svm_model.specs.Machine.Shapes.{Shape, IsVcpu}
 use Rattle.svm_model.specs.Machine.Turns.{Turn, turn_of, with_apic, with_vcpu, with_live, with_guest}
 use Rattle.svm_model.specs.Machine.World.{World}
 use Rattle.svm_model.specs.declared.names.Ended.{Ended}
+use Rattle.svm_model.specs.declared.names.RunEnd.{RunEnd}
 use Rattle.svm_model.specs.declared.names.VcpuId.{VcpuId}
 use Rattle.svm_model.specs.declared.vcpus.Vcpu.{Vcpu}
 use Rattle.svm_model.proofs.WindowLemmas.{length-guest_of}
@@ -160,10 +161,10 @@ out_in_world call w bus id guest there out = record {
   last = (in_world None w bus id guest there).calls_are ∙ out.last;
 }
 
-pub cut_in_world : (call : ℕ) (w : World) (bus new : Bus) (id : VcpuId) (guest : Guest) (refusals later : ℕ) → slice_get w.guests id.guest.0 ≡ Some guest →
-    IsCutBy (IsOutIn call (moment_of w id) bus guest) (Unit {0}) bus new refusals later → IsCutBy (IsOut call w bus id) (Unit {0}) bus new refusals later
-cut_in_world call w bus new id guest refusals later there (inl out) = inl (out_in_world call w bus id guest there out.0, out.1)
-cut_in_world call w bus new id guest refusals later there (inr unheard) = inr unheard
+pub cut_in_world : (call : ℕ) (w : World) (end : RunEnd) (bus new : Bus) (id : VcpuId) (guest : Guest) (refusals later : ℕ) → slice_get w.guests id.guest.0 ≡ Some guest →
+    IsCutBy (IsOutIn call (moment_of w id) bus guest) (Unit {0}) end bus new refusals later → IsCutBy (IsOut call w bus id) (Unit {0}) end bus new refusals later
+cut_in_world call w end bus new id guest refusals later there (inl out) = inl (out_in_world call w bus id guest there out.0, out.1)
+cut_in_world call w end bus new id guest refusals later there (inr unheard) = inr unheard
 
 pub slot_there : (slots : List Kept) (i : ℕ) → i < length slots → (slot : Kept) × (slice_get slots i ≡ Some slot)
 slot_there [] i h = absurd (omega (arith, h))

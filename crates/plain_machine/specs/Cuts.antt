@@ -8,6 +8,8 @@ use Rattle.svm_model.specs.Machine.Turns.{turn_of}
 use Rattle.svm_model.specs.Machine.World.{World}
 use Rattle.svm_model.specs.declared.names.Event.{Event}
 use Rattle.svm_model.specs.declared.names.Event.TheVariants.{Run}
+use Rattle.svm_model.specs.declared.names.RunEnd.{RunEnd}
+use Rattle.svm_model.specs.declared.names.RunEnd.TheVariants.{NoMemory}
 use Rattle.svm_model.specs.declared.names.VcpuId.{VcpuId}
 
 -- the bus that an event leaves which is cut off, since the outward call of this number was refused
@@ -33,13 +35,13 @@ unfoldable pub HasTurn : World → Event → Type 0
 HasTurn w (Run cpu) = IsPlaced (slice_get w.placing cpu.0)
 HasTurn w _ = ⊥
 
--- What is handed over was refused, and the bus is as it was; or in a turn a notice was refused, by one whose count of refusals
--- rose.
-abbrev pub IsCutBy : Type 0 → Type 0 → Bus → Bus → ℕ → ℕ → Type 0
-IsCutBy HandedOver Turn bus new refusals later = (HandedOver × (new ≡ bus)) ⊎ (Turn × Rose refusals later)
+-- What is handed over was refused, and the bus is as it was; or in a turn a notice was refused for want of memory, by one whose
+-- count of refusals rose.
+abbrev pub IsCutBy : Type 0 → Type 0 → RunEnd → Bus → Bus → ℕ → ℕ → Type 0
+IsCutBy HandedOver Turn end bus new refusals later = (HandedOver × (new ≡ bus)) ⊎ (Turn × (end ≡ NoMemory) × Rose refusals later)
 
-abbrev pub IsCutOf : ℕ → World → Bus → Event → Bus → ℕ → ℕ → Type 0
-IsCutOf call w bus event new refusals later = IsCutBy (HandsOverOf call w bus event) (HasTurn w event) bus new refusals later
+abbrev pub IsCutOf : ℕ → World → Bus → Event → RunEnd → Bus → ℕ → ℕ → Type 0
+IsCutOf call w bus event end new refusals later = IsCutBy (HandsOverOf call w bus event) (HasTurn w event) end bus new refusals later
 
-abbrev pub IsCut : ℕ → World → Bus → Event → Bus → ℕ → ℕ → Type 0
-IsCut call w bus event new refusals later = IsCutBy (HandsOver call w bus event) (HasTurn w event) bus new refusals later
+abbrev pub IsCut : ℕ → World → Bus → Event → RunEnd → Bus → ℕ → ℕ → Type 0
+IsCut call w bus event end new refusals later = IsCutBy (HandsOver call w bus event) (HasTurn w event) end bus new refusals later

@@ -103,7 +103,7 @@ impl PlainMachine {
         ensures reached { IfErr result (λ cut. self.new.world ≡ (turn_of (Some cut.call) self.old.world (B.bus bus.old) vcpu).world) }
         ensures heard { OnOk result (Leads W.tells walking.old.watch.now (notices walking.old.turn (plain_turn self.old.world (B.bus bus.old) vcpu).told) walking.new.watch.now) }
         ensures bus_reached { IfErr result (λ cut. B.bus bus.new ≡ (turn_of (Some cut.call) self.old.world (B.bus bus.old) vcpu).bus) }
-        ensures cut { IfErr result (λ cut. IsCutBy (IsOut cut.call self.old.world (B.bus bus.old) vcpu) (Unit {0}) (B.bus bus.old) (B.bus bus.new) (W.refusals walking.old.watch.now) (W.refusals walking.new.watch.now)) }
+        ensures cut { IfErr result (λ cut. IsCutBy (IsOut cut.call self.old.world (B.bus bus.old) vcpu) (Unit {0}) cut.end (B.bus bus.old) (B.bus bus.new) (W.refusals walking.old.watch.now) (W.refusals walking.new.watch.now)) }
         ensures none_refused { W.refusals walking.old.watch.now ≤ W.refusals walking.new.watch.now }
         ensures name { walking.new.watch.ghost_name ≡ walking.old.watch.ghost_name }
         ensures blamed { IfErr result (λ cut. Blames cut.end (B.faults bus.old) (B.faults bus.new)) }
@@ -213,7 +213,7 @@ impl PlainMachine {
         ensures told { OnOk result (Leads W.tells watch.old (told_notices (turn_in_event self.old.world (Event.Run cpu) (event_of self.old.world (B.bus bus.old) (Event.Run cpu)).effect.vcpu) (event_of self.old.world (B.bus bus.old) (Event.Run cpu)).told) watch.new) }
         ensures reached { IfErr result (λ cut. self.new.world ≡ reached_of cut.call self.old.world (B.bus bus.old) (Event.Run cpu)) }
         ensures bus_reached { IfErr result (λ cut. B.bus bus.new ≡ bus_reached_of cut.call self.old.world (B.bus bus.old) (Event.Run cpu)) }
-        ensures cut { IfErr result (λ cut. IsCutOf cut.call self.old.world (B.bus bus.old) (Event.Run cpu) (B.bus bus.new) (W.refusals watch.old) (W.refusals watch.new)) }
+        ensures cut { IfErr result (λ cut. IsCutOf cut.call self.old.world (B.bus bus.old) (Event.Run cpu) cut.end (B.bus bus.new) (W.refusals watch.old) (W.refusals watch.new)) }
         ensures none_refused { W.refusals watch.old ≤ W.refusals watch.new }
         ensures blamed { IfErr result (λ cut. Blames cut.end (B.faults bus.old) (B.faults bus.new)) }
         ensures none_fell { NoneFell (B.faults bus.old) (B.faults bus.new) }
@@ -289,7 +289,7 @@ impl PlainMachine {
         ensures told { OnOk result (Leads W.tells watch.old (told_notices (turn_in_event self.old.world event (event_of self.old.world (B.bus bus.old) event).effect.vcpu) (event_of self.old.world (B.bus bus.old) event).told) watch.new) }
         ensures reached { IfErr result (λ cut. self.new.world ≡ reached_of cut.call self.old.world (B.bus bus.old) event) }
         ensures bus_reached { IfErr result (λ cut. B.bus bus.new ≡ bus_reached_of cut.call self.old.world (B.bus bus.old) event) }
-        ensures cut { IfErr result (λ cut. IsCutOf cut.call self.old.world (B.bus bus.old) event (B.bus bus.new) (W.refusals watch.old) (W.refusals watch.new)) }
+        ensures cut { IfErr result (λ cut. IsCutOf cut.call self.old.world (B.bus bus.old) event cut.end (B.bus bus.new) (W.refusals watch.old) (W.refusals watch.new)) }
         ensures none_refused { W.refusals watch.old ≤ W.refusals watch.new }
         ensures blamed { IfErr result (λ cut. Blames cut.end (B.faults bus.old) (B.faults bus.new)) }
         ensures none_fell { NoneFell (B.faults bus.old) (B.faults bus.new) }
@@ -362,8 +362,8 @@ impl PlainMachine {
         ensures effect { IfOk result (λ effect. effect ≡ (plain_event self.old.world (B.bus bus.old) event).effect) }
         ensures stopped { self.new.stopped ≡ is_err result }
         ensures told { OnOk result (Leads W.tells watch.old (event_notices self.old.world (B.bus bus.old) event) watch.new) }
-        ensures cut { OnErr result ((call : ℕ) × (self.new.world ≡ reached call self.old.world (B.bus bus.old) event) × (B.bus bus.new ≡ bus_reached call self.old.world (B.bus bus.old) event)
-            × IsCut call self.old.world (B.bus bus.old) event (B.bus bus.new) (W.refusals watch.old) (W.refusals watch.new)) }
+        ensures cut { IfErr result (λ end. (call : ℕ) × (self.new.world ≡ reached call self.old.world (B.bus bus.old) event) × (B.bus bus.new ≡ bus_reached call self.old.world (B.bus bus.old) event)
+            × IsCut call self.old.world (B.bus bus.old) event end (B.bus bus.new) (W.refusals watch.old) (W.refusals watch.new)) }
         ensures none_refused { W.refusals watch.old ≤ W.refusals watch.new }
         ensures blamed { IfErr result (λ end. Blames end (B.faults bus.old) (B.faults bus.new)) }
         ensures none_fell { NoneFell (B.faults bus.old) (B.faults bus.new) }

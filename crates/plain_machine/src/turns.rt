@@ -113,7 +113,7 @@ fn turn_guest<'w, W: Watch, B: Ports, L: Ledger>(
     ensures reached { IfErr result (λ cut. guest_at memory.new.bytes slot.new ≡ (guest_turn (Some cut.call) moment.now (B.bus bus.old) (guest_at memory.old.bytes slot.old)).guest) }
     ensures told { OnOk result (Leads W.tells walking.old.watch.now (notices walking.old.turn (guest_turn None moment.now (B.bus bus.old) (guest_at memory.old.bytes slot.old)).told) walking.new.watch.now) }
     ensures bus_reached { IfErr result (λ cut. B.bus bus.new ≡ (guest_turn (Some cut.call) moment.now (B.bus bus.old) (guest_at memory.old.bytes slot.old)).bus) }
-    ensures cut { IfErr result (λ cut. IsCutBy (IsOutIn cut.call moment.now (B.bus bus.old) (guest_at memory.old.bytes slot.old)) (Unit {0}) (B.bus bus.old) (B.bus bus.new) (W.refusals walking.old.watch.now) (W.refusals walking.new.watch.now)) }
+    ensures cut { IfErr result (λ cut. IsCutBy (IsOutIn cut.call moment.now (B.bus bus.old) (guest_at memory.old.bytes slot.old)) (Unit {0}) cut.end (B.bus bus.old) (B.bus bus.new) (W.refusals walking.old.watch.now) (W.refusals walking.new.watch.now)) }
     ensures none_refused { W.refusals walking.old.watch.now ≤ W.refusals walking.new.watch.now }
     ensures name { walking.new.watch.ghost_name ≡ walking.old.watch.ghost_name }
     ensures blamed { IfErr result (λ cut. Blames cut.end (B.faults bus.old) (B.faults bus.new)) }
@@ -175,7 +175,7 @@ pub fn turn_in<'w, W: Watch, B: Ports, L: Ledger>(
         Leads W.tells walking.old.watch.now (notices walking.old.turn (guest_turn None moment.now (B.bus bus.old) (guest_at memory.old.bytes slot)).told) walking.new.watch.now)) }
     ensures bus_reached { IfErr result (λ cut. IfSome (slice_get slots.old moment.now.vcpu.guest.0) (λ slot. B.bus bus.new ≡ (guest_turn (Some cut.call) moment.now (B.bus bus.old) (guest_at memory.old.bytes slot)).bus)) }
     ensures cut { IfErr result (λ cut. IfSome (slice_get slots.old moment.now.vcpu.guest.0) (λ slot.
-        IsCutBy (IsOutIn cut.call moment.now (B.bus bus.old) (guest_at memory.old.bytes slot)) (Unit {0}) (B.bus bus.old) (B.bus bus.new) (W.refusals walking.old.watch.now) (W.refusals walking.new.watch.now))) }
+        IsCutBy (IsOutIn cut.call moment.now (B.bus bus.old) (guest_at memory.old.bytes slot)) (Unit {0}) cut.end (B.bus bus.old) (B.bus bus.new) (W.refusals walking.old.watch.now) (W.refusals walking.new.watch.now))) }
     ensures none_refused { W.refusals walking.old.watch.now ≤ W.refusals walking.new.watch.now }
     ensures name { walking.new.watch.ghost_name ≡ walking.old.watch.ghost_name }
     ensures blamed { IfErr result (λ cut. Blames cut.end (B.faults bus.old) (B.faults bus.new)) }

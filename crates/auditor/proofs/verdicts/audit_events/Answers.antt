@@ -53,7 +53,7 @@ returns-in-Ok-Some-clause-bus g c =
 pub returns-in-Err-clause-cut : goal.returns-in-Err-clause-cut
 returns-in-Err-clause-cut g c =
     let before = c.loop-number.invariant in
-    cut_here _ _ (events_of c.args.cpus c.args.script.now) c.loop-number.number before.known c.loop-number.machine.world (g.B.Ports.bus c.loop-number.bus) before.kept c.in-Some.event _ c.event_near.ensures.event c.in-Some.is _ c.in-Err.ensures.cut
+    cut_here _ _ (events_of c.args.cpus c.args.script.now) c.loop-number.number before.known c.loop-number.machine.world (g.B.Ports.bus c.loop-number.bus) before.kept c.in-Some.event _ c.event_near.ensures.event c.in-Some.is _ _ c.in-Err.ensures.cut
 
 pub returns-clause-verdict : goal.returns-clause-verdict
 returns-clause-verdict g c =

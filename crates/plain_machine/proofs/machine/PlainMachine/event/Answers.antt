@@ -73,6 +73,6 @@ returns-in-Err-clause-cut g c =
       call,
       ap (λ (m : Machine). m.world) c.self.view_is ∙ (c.in-Err.ensures.reached ∙ ap (λ (w : World). reached_of call w bus c.args.event) timers),
       c.in-Err.ensures.bus_reached ∙ ap (λ (w : World). bus_reached_of call w bus c.args.event) timers,
-      cut-timed call c.args.self.now.world bus (g.B.Ports.bus c.happen.new.bus) c.args.event _ _
-          (subst (λ (w : World). IsCutOf call w bus c.args.event (g.B.Ports.bus c.happen.new.bus) (g.W.Watch.refusals c.args.watch.now) (g.W.Watch.refusals c.happen.new.watch)) timers c.in-Err.ensures.cut),
+      cut-timed call c.args.self.now.world c.in-Err.cut.end bus (g.B.Ports.bus c.happen.new.bus) c.args.event _ _
+          (subst (λ (w : World). IsCutOf call w bus c.args.event c.in-Err.cut.end (g.B.Ports.bus c.happen.new.bus) (g.W.Watch.refusals c.args.watch.now) (g.W.Watch.refusals c.happen.new.watch)) timers c.in-Err.ensures.cut),
     )

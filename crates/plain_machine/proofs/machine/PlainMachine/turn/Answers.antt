@@ -101,8 +101,8 @@ returns-clause-cut g c =
     let refusals = g.W.Watch.refusals c.args.walking.now.watch.now in
     let later = g.W.Watch.refusals c.turn_in.new.walking.watch.now in
     if_err c.turn_in.result _ _ (λ cut h.
-    subst (λ (w : World). IsCutBy (IsOut cut.call w bus c.args.vcpu) (Unit {0}) bus new refusals later) (before g c)
-    (cut_in_world cut.call (world_over g c c.self.inside.memory.bytes c.deref_mut.result.now) bus new c.args.vcpu (guest_at c.self.inside.memory.bytes (there g c).0) refusals later
+    subst (λ (w : World). IsCutBy (IsOut cut.call w bus c.args.vcpu) (Unit {0}) cut.end bus new refusals later) (before g c)
+    (cut_in_world cut.call (world_over g c c.self.inside.memory.bytes c.deref_mut.result.now) cut.end bus new c.args.vcpu (guest_at c.self.inside.memory.bytes (there g c).0) refusals later
     (guest_there c.self.inside.memory.bytes c.deref_mut.result.now c.args.vcpu.guest.0 (there g c).0 (there g c).1) (said g c _ h))) c.turn_in.ensures.cut
 
 pub returns-clause-shape : goal.returns-clause-shape
