@@ -16,7 +16,8 @@ fn is_field(stale: &Stale) -> bool
     }
 }
 
-/// A field breach takes the place of a translation breach of the same event.
+/// Whether the next breach is told in place of the first: that is of a translation, the next of a field, and both come in one
+/// event.
 fn takes_place(next: &Breach, first: &Breach) -> bool
     ensures { result ≡ takes_place next.now first.now }
 {

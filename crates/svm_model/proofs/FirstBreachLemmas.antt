@@ -27,7 +27,7 @@ same_number n = grind arith
 pub vcpu_itself : (v : VcpuId) → is_vcpu v v ≡ true
 vcpu_itself v = rw (same_number v.guest.0) (same_number v.index)
 
--- a field breach takes the place of a translation breach
+-- one of a field comes before one of a translation
 abbrev pub join_field : Option Stale → Option Stale → Option Stale
 join_field None next = next
 join_field (Some first) None = Some first

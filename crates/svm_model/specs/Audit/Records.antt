@@ -99,7 +99,7 @@ differs kept (Some leaf) = not (kept.frame.0 == leaf.frame.0) || exceeds kept le
 abbrev pub is_stale : Making → Leaf → Bool
 is_stale made kept = (permits kept made && not (agrees kept made.outcome)) || (made.nested && differs kept made.leaf)
 
--- Of several stale ones that of the least frame counts, and of these the one that was added first.
+-- Where several are stale the one with the lowest frame is told, and among equal frames the oldest.
 
 -- an older one stays, unless the newer one's frame is less
 abbrev pub preferred : Leaf → Option Leaf → Option Leaf

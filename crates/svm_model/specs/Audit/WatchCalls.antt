@@ -97,7 +97,7 @@ is_field (stale.Field group vmcb field held found) = true
 abbrev pub breach_in : TurnId → Stale → Breach
 breach_in turn stale = record { turn = turn; stale = stale }
 
--- a breach stays the first, but that a field breach takes the place of a translation breach of the same event
+-- a breach stays the first, unless it is one of a translation and one of a field follows in that event
 abbrev pub takes_place : Breach → Breach → Bool
 takes_place next first = is_field next.stale && not (is_field first.stale) && (first.turn.event == next.turn.event)
 
