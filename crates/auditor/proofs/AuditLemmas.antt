@@ -1,6 +1,7 @@
 -- The audit of first events, and what is left of it.
-use Rattle.std.proofs.Common.{◌≡◌, ◌∙◌, ℕ, zero, suc, ◌+◌, List, [], ◌∷◌, ◌++◌, Option, Some, None, length, take, drop, slice_get, add-one, ap, append_assoc, append-nil, arith, refl, subst, sym}
+use Rattle.std.proofs.Common.{◌≡◌, ◌∙◌, ℕ, zero, suc, ◌+◌, ◌≤◌, List, [], ◌∷◌, ◌++◌, Option, Some, None, length, take, drop, slice_get, add-one, ap, append_assoc, append-nil, arith, refl, subst, sym}
 use Rattle.std.proofs.lemmas.List.{take-append-drop, take_all}
+use Rattle.std.proofs.lemmas.Option.{slice_get_within}
 use Rattle.svm_model.specs.Audit.Breaches.{Known, nothing_known}
 use Rattle.svm_model.specs.Audit.Verdicts.{Audited, audit_of, audited, ended_by, verdict_of}
 use Rattle.svm_model.specs.Machine.Bus.{Bus}
@@ -14,6 +15,7 @@ use Rattle.svm_model.specs.declared.names.RunEnd.{RunEnd}
 use Rattle.svm_model.specs.declared.names.VcpuId.{VcpuId}
 use Rattle.auditor.specs.CutOffs.{IsCutAt, IsCutOff}
 use Rattle.auditor.specs.Steps.{breach_at, known_at}
+use Rattle.auditor.proofs.LengthLemmas.{goes_on}
 
 run_more : (w : World) (bus : Bus) (events : List Event) (event : Event) (led : Led) → plain_run w bus events ≡ led
     → plain_run w bus (events ++ event ∷ []) ≡ record { world = (plain_event led.world led.bus event).world; bus = (plain_event led.world led.bus event).bus }
@@ -64,9 +66,20 @@ module _ (w : World) (bus : Bus) where
     pub kept_bus : length events ≡ n → now ≡ (audit_of w bus events).bus
     kept_bus whole = ap (λ (a : Audited). a.bus) (sym (kept_all whole))
 
+    -- all of them were audited
+    pub kept_count : length events ≡ n → v.event ≡ n → n ≤ (audit_of w bus events).world.event
+    kept_count whole number = let count = ap (λ (a : Audited). a.world.event) (kept_all whole) in omega (arith, count, number)
+
     module _ (event : Event) (next : Option Event) (got : next ≡ slice_get events n) (is : next ≡ Some event) where
       there : slice_get events n ≡ Some event
       there = sym got ∙ is
+
+      -- an audit comes to one event more
+      pub next_counts : w.event ≡ 0 → n + 1 ≤ (audit_of w bus events).world.event
+      unfolding audit_of
+      next_counts first =
+          let more = goes_on (λ vcpu. nothing_known) w bus events n (slice_get_within events n event there) (ap (λ (a : Audited). a.breach) (kept_alone (take n events) known v now kept)) in
+          omega (arith, first, more)
 
       -- one event more that has no breach
       pub kept_next : (found : Option Breach) (u : World) (new : Bus) → found ≡ breach_at known v now event → found ≡ None

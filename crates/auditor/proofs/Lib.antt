@@ -1,2 +1,3 @@
 pub mod AuditLemmas
+pub mod LengthLemmas
 pub mod RuleLemmas

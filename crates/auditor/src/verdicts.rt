@@ -69,7 +69,7 @@ fn audit_events<B: Ports, L: Ledger>(
     ensures cut { IfErr result (λ end. IsCutOff end machine.old.world (B.bus bus.old) (events_of cpus script.now) (B.bus bus.new)) }
     ensures blamed { IfErr result (λ end. Blames end (B.faults bus.old) (B.faults bus.new)) }
     ensures none_fell { NoneFell (B.faults bus.old) (B.faults bus.new) }
-    ensures steps { steps.new ≤ steps.old + 6368 * script.now.events }
+    ensures steps { steps.new ≤ steps.old + 6368 * (audit_of machine.old.world (B.bus bus.old) (events_of cpus script.now)).world.event }
     ensures later { steps.old ≤ steps.new }
 {
     let mut memory = RuleMemory::new(alloc);
@@ -114,7 +114,7 @@ pub fn audit<B: Ports, L: Ledger>(
     ensures refused { IfErr result (λ end. EndsEarly end (world_of image.now) (B.bus bus.old) (events_of image.now.cpus script.now) (B.bus bus.new)) }
     ensures blamed { IfErr result (λ end. Blames end (B.faults bus.old) (B.faults bus.new)) }
     ensures none_fell { NoneFell (B.faults bus.old) (B.faults bus.new) }
-    ensures steps { steps.new ≤ steps.old + 6368 * script.now.events }
+    ensures steps { steps.new ≤ steps.old + 6368 * (audit_of (world_of image.now) (B.bus bus.old) (events_of image.now.cpus script.now)).world.event }
     ensures later { steps.old ≤ steps.new }
 {
     let Ok(mut machine) = PlainMachine::open(alloc, image) else {

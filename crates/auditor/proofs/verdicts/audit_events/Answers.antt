@@ -1,10 +1,10 @@
 -- One more event leads on from those so far, or ends the audit.
-use Rattle.std.proofs.Common.{◌≡◌, ◌∙◌, ◌+◌, ℕ, ap, arith, refl}
+use Rattle.std.proofs.Common.{◌≡◌, ◌∙◌, ◌+◌, ℕ, length, ap, arith, refl}
 use Rattle.svm_model.specs.Formats.Script.{Script, events_of}
 use Rattle.svm_model.specs.declared.audits.Verdict.TheVariants.{Keeps}
 use Rattle.port_bus.proofs.Counts.{none_fell-itself, none_fell-then}
 use Rattle.auditor.specs.Steps.{known_at}
-use Rattle.auditor.proofs.AuditLemmas.{broken_bus, broken_verdict, cut_here, kept_bus, kept_next, kept_verdict, none_kept}
+use Rattle.auditor.proofs.AuditLemmas.{broken_bus, broken_verdict, cut_here, kept_bus, kept_count, kept_next, kept_verdict, next_counts, none_kept}
 use Rattle.auditor.proofs.verdicts.audit_events.Goals as goal
 
 pub loop-number-init : goal.loop-number-init
@@ -55,6 +55,24 @@ returns-in-Err-clause-cut g c =
     let before = c.loop-number.invariant in
     cut_here _ _ (events_of c.args.cpus c.args.script.now) c.loop-number.number before.known c.loop-number.machine.world (g.B.Ports.bus c.loop-number.bus) before.kept c.in-Some.event _ c.event_near.ensures.event c.in-Some.is _ _ c.in-Err.ensures.cut
 
+pub returns-in-Ok-Some-clause-steps : goal.returns-in-Ok-Some-clause-steps
+returns-in-Ok-Some-clause-steps g c =
+    let before = c.loop-number.invariant in
+    let cost = before.cost in
+    let more =
+    next_counts _ _ (events_of c.args.cpus c.args.script.now) c.loop-number.number before.known c.loop-number.machine.world (g.B.Ports.bus c.loop-number.bus) before.kept c.in-Some.event _ c.event_near.ensures.event c.in-Some.is
+    c.requires.first in
+    omega (arith, cost, more, c.in-Ok-Some.ensures.steps)
+
+pub returns-in-Err-clause-steps : goal.returns-in-Err-clause-steps
+returns-in-Err-clause-steps g c =
+    let before = c.loop-number.invariant in
+    let cost = before.cost in
+    let more =
+    next_counts _ _ (events_of c.args.cpus c.args.script.now) c.loop-number.number before.known c.loop-number.machine.world (g.B.Ports.bus c.loop-number.bus) before.kept c.in-Some.event _ c.event_near.ensures.event c.in-Some.is
+    c.requires.first in
+    omega (arith, cost, more, c.in-Err.ensures.steps)
+
 pub returns-clause-verdict : goal.returns-clause-verdict
 returns-clause-verdict g c =
     let before = c.loop-number.invariant in
@@ -69,3 +87,12 @@ returns-clause-bus g c =
     let count : c.script.inside.events ≡ c.args.script.now.events = ap (λ (s : Script). s.events) c.script.view_is in
     kept_bus _ _ (events_of c.args.cpus c.args.script.now) c.loop-number.number before.known c.loop-number.machine.world (g.B.Ports.bus c.loop-number.bus) before.kept
     (omega (arith, c.requires.count, c.loop-number-test.false, c.loop-number.auto.number-end, count))
+
+pub returns-clause-steps : goal.returns-clause-steps
+returns-clause-steps g c =
+    let before = c.loop-number.invariant in
+    let cost = before.cost in
+    let count : c.script.inside.events ≡ c.args.script.now.events = ap (λ (s : Script). s.events) c.script.view_is in
+    let whole : length (events_of c.args.cpus c.args.script.now) ≡ c.loop-number.number = omega (arith, c.requires.count, c.loop-number-test.false, c.loop-number.auto.number-end, count) in
+    let all = kept_count _ _ (events_of c.args.cpus c.args.script.now) c.loop-number.number before.known c.loop-number.machine.world (g.B.Ports.bus c.loop-number.bus) before.kept whole before.done in
+    omega (arith, cost, all)
