@@ -12,16 +12,16 @@ use std::alloc::Global;
 use std::marker::Model;
 use svm_model::{Registers, Segment};
 
-// What an image says of a vcpu.
+/// What an image says of a vcpu: the registers with which it starts. All others are as in `start_registers`.
 #[derive(Drop)]
-struct Start {
-    cr3: u64,
-    rip: u64,
-    rsp: u64,
-    rflags: u64,
-    gdtr: Segment,
-    idtr: Segment,
-    tr: Segment,
+pub struct Start {
+    pub cr3: u64,
+    pub rip: u64,
+    pub rsp: u64,
+    pub rflags: u64,
+    pub gdtr: Segment,
+    pub idtr: Segment,
+    pub tr: Segment,
 }
 
 impl Model for Start {
@@ -55,8 +55,8 @@ const START_SS: Segment = Segment {
     base: 0,
 };
 
-// A register with a base and a limit alone.
-fn table_register(base: u64, limit: u16) -> Segment
+/// GDTR or IDTR: a register with a base and a limit alone.
+pub fn table_register(base: u64, limit: u16) -> Segment
     ensures { result ≡ table_register base limit }
 {
     Segment {
@@ -67,8 +67,8 @@ fn table_register(base: u64, limit: u16) -> Segment
     }
 }
 
-// A busy task-state segment: P, type 11.
-fn start_tr(base: u64, limit: u16) -> Segment
+/// TR: a busy 64-bit task-state segment (P, type 11) at a base.
+pub fn start_tr(base: u64, limit: u16) -> Segment
     ensures { result ≡ start_tr base limit }
 {
     Segment {
@@ -79,10 +79,10 @@ fn start_tr(base: u64, limit: u16) -> Segment
     }
 }
 
-// All registers: 64-bit mode with paging, CR0.WP and EFER.NXE, at CPL 0. The rest is as after a reset (volume 2,
-// 'Initial Processor State').
+/// All registers of a vcpu that starts so: 64-bit mode with paging, CR0.WP and EFER.NXE, at CPL 0. The rest is as after a
+/// reset (volume 2, 'Initial Processor State').
 #[tactic(auto, unfolding(svm_model::specs::Formats::ImageVcpus::start_registers))]
-fn start_registers(start: Start) -> Registers
+pub fn start_registers(start: Start) -> Registers
     ensures { result ≡ start_registers start }
 {
     Registers {
