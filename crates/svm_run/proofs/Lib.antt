@@ -1,7 +1,9 @@
+pub mod Audits
 pub mod BlockLemmas
 pub mod Endings
 pub mod Events
 pub mod Firsts
+pub mod Printed
 pub mod Received
 pub mod Reports
 pub mod Runs

@@ -11,7 +11,7 @@ use Rattle.svm_model.specs.declared.names.Ended.{Ended}
 use Rattle.svm_model.specs.declared.ports.PortWrite.{PortWrite}
 use Rattle.svm_model.specs.declared.vcpus.Vcpu.{Vcpu}
 use Rattle.plain_machine.specs.Machines.{vcpu_of}
-use Rattle.svm_run.specs.Outcome.{has_ended, outcome_after}
+use Rattle.svm_run.specs.Outcome.{has_ended, outcome_after, status_ended}
 
 -- the lines from one vcpu on are its line, and those from the next on
 vcpu-next : (vcpus : List Vcpu) (guest index n : ℕ) (text text' : List ℕ) → option_map (λ v. text ++ vcpu_line guest index (level_in v.inside) v.halted v.registers) (slice_get vcpus n) ≡ Some text' →
@@ -66,5 +66,9 @@ pub report_of_bus : (w : World) (bus : Bus) (output : List PortWrite) (text : Li
     ((devices : List (Option Device)) → text ≡ report w (record { devices = devices; output = output })) → text ≡ (outcome_after [] (record { world = w; bus = bus })).text
 unfolding outcome_after
 report_of_bus w bus output text e h = h bus.devices ∙ ap (λ (o : List PortWrite). report w (record { devices = bus.devices; output = o })) e
+
+pub status_led : (w : World) (bus : Bus) → status_ended w.guests ≡ (outcome_after [] (record { world = w; bus = bus })).status
+unfolding outcome_after
+status_led w bus = refl
 
 pub ruleset reports = (guests_next, ended_here)

@@ -4,18 +4,21 @@ use Rattle.byte_shelf.specs.Sink.{appended, IsCutShort}
 use Rattle.fault_counts.specs.Causes.{Rose}
 use Rattle.svm_model.specs.Machine.Bus.{Bus}
 use Rattle.svm_model.specs.Formats.Script.{events_of}
-use Rattle.svm_model.specs.Machine.Runs.{HandsOver}
+use Rattle.svm_model.specs.Machine.Runs.{HandsOver, Led}
 use Rattle.svm_model.specs.Machine.World.{World}
 use Rattle.svm_model.specs.declared.names.Event.{Event}
 use Rattle.svm_model.specs.declared.names.RunEnd.TheVariants.{Device}
+use Rattle.plain_machine.specs.Cuts.{HasTurn, bus_reached}
 use Rattle.port_bus.specs.Causes.{Blames}
 use Rattle.svm_run.specs.Jobs.{Job}
-use Rattle.svm_run.specs.Outcome.{events_text, led_until, text_until}
+use Rattle.svm_run.specs.Outcome.{completed, events_text, led_until, text_until}
 use Rattle.svm_run.specs.StatusLine.{status_line}
 use Rattle.svm_run.specs.Statuses.{EventsRun, NoEvents, FirstEvents, NotAllEvents, EventsToLine, AllEvents, Printed, WholeText, PartOfText, TextThenLine, PartThenLine, LineAlone, Blame, NothingOutside, TheShelf, TheSink, TheDevice, WantOfMemory, Meaning, meaning_of}
 use Rattle.svm_run.specs.declared.status.Status.{Status}
 use Rattle.svm_run.specs.declared.status.Status.TheVariants.{Input, OutsideFault, NoMemory}
 use Rattle.svm_run.specs.declared.status.OutsideFault.TheVariants.{Read}
+use Rattle.svm_run.specs.declared.words.Work.{Work}
+use Rattle.svm_run.specs.declared.words.Work.TheVariants.{Audit}
 
 -- What a sink received.
 
@@ -64,12 +67,22 @@ IsRefusedAt NotAllEvents count bus job =
     HandsOverIt (led_until count bus job).world (led_until count bus job).bus (slice_get (events_of job.image.cpus job.script) count)
 IsRefusedAt _ count bus job = Unit {0}
 
+-- the turn of the next event was cut off, and the bus is as it had left it
+abbrev pub IsWithin : Led → Option Event → Bus → Type 0
+IsWithin led None after = ⊥
+IsWithin led (Some event) after = (call : ℕ) × HasTurn led.world event × (after ≡ bus_reached call led.world led.bus event)
+
+-- The bus is behind events that led here. Where an audit had no memory for what the next one tells it may be within that.
+abbrev pub StandsBehind : EventsRun → Work → Led → Option Event → Bus → Type 0
+StandsBehind FirstEvents Audit led next after = (after ≡ led.bus) ⊎ IsWithin led next after
+StandsBehind _ _ led next after = after ≡ led.bus
+
 -- The run of a job came so far: one number of events says where the bus is and what was printed.
 pub record EndsRun (m : Meaning) (line : List ℕ) (job : Job) (before after : Bus) (old new : Option (List ℕ)) (refused : Type 0) : Type 0 where
   pub count : ℕ
-  pub reached : IsReached m.events count (length (events_of job.image.cpus job.script))
+  pub reached : IsReached m.events count (completed before job).events
   pub refused_at : IsRefusedAt m.events count before job
-  pub bus : after ≡ (led_until count before job).bus
+  pub bus : StandsBehind m.events job.work (led_until count before job) (slice_get (events_of job.image.cpus job.script) count) after
   pub printed : Receives m.printed (events_text (count - 1) before job) (text_until count before job) line old new refused
 
 -- the program may end so before it has a job
@@ -116,6 +129,22 @@ HasCause TheShelf shelf shelf' sink sink' devices devices' = Rose shelf shelf'
 HasCause TheSink shelf shelf' sink sink' devices devices' = Rose sink sink'
 HasCause (TheDevice device) shelf shelf' sink sink' devices devices' = Blames (Device device) devices devices'
 HasCause WantOfMemory shelf shelf' sink sink' devices devices' = Unit {0}
+
+-- all events were run, the text was wholly received, and nothing outside is to blame
+pub record IsWhole (m : Meaning) : Type 0 where
+  pub events : m.events ≡ AllEvents
+  pub printed : m.printed ≡ WholeText
+  pub blame : m.blame ≡ NothingOutside
+
+-- How a job ends whose events were all run and whose last text is printed: by the status that it is to have, else for a fault
+-- of the sink or for want of memory. The counts are those of the sink, before and after.
+pub record EndsPrinting (wanted status : Status) (text : List ℕ) (old new : Option (List ℕ)) (refused : Type 0) (before now : ℕ) : Type 0 where
+  pub exact : IsDetermined status → status ≡ wanted
+  pub run : IsBeforeRun status → ⊥
+  pub reached : (count : ℕ) → IsReached (meaning_of status).events count count
+  pub not_refused : (count : ℕ) (bus : Bus) (job : Job) → IsRefusedAt (meaning_of status).events count bus job
+  pub printed : Receives (meaning_of status).printed [] text (status_line status) old new refused
+  pub cause : (shelf shelf' : ℕ) (devices devices' : List (Option ℕ)) → HasCause (meaning_of status).blame shelf shelf' before now devices devices'
 
 -- What a part of the work answered is what is told of it: an error that is determined is that error.
 abbrev pub IsAsTold : {A B : Type 0} → (A → B) → Result A Status → Result B Status → Type 0

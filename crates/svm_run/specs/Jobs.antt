@@ -16,7 +16,7 @@ use Rattle.svm_run.specs.declared.status.InputFault.TheVariants.{Missing, Image,
 use Rattle.svm_run.specs.declared.status.OutsideFault.TheVariants.{Read}
 use Rattle.svm_run.specs.declared.words.Work.{Work}
 
--- an image, a script for it, and whether its events are told by their dumps alone or by a block each
+-- an image, a script for it, and what is asked for of the run
 pub record Job : Type 0 where
   pub work : Work
   pub image : ImageRecord

@@ -5,7 +5,7 @@ use Rattle.svm_model.specs.Formats.Text.{◌⧺◌, newline, image_reason_name, 
 use Rattle.svm_model.specs.declared.formats.ImageReason.{ImageReason}
 use Rattle.svm_model.specs.declared.formats.ScriptReason.{ScriptReason}
 use Rattle.svm_run.specs.declared.status.Status.{Status}
-use Rattle.svm_run.specs.declared.status.Status.TheVariants.{Done, Words, Input, OutsideFault, NoMemory, LeftProfile}
+use Rattle.svm_run.specs.declared.status.Status.TheVariants.{Done, Words, Input, Breach, OutsideFault, NoMemory, LeftProfile}
 use Rattle.svm_run.specs.declared.status.InputFault.TheVariants.{Missing, Image, Script}
 use Rattle.svm_run.specs.declared.status.OutsideFault.TheVariants.{Read, Write, Device}
 
@@ -29,4 +29,5 @@ status_line (OutsideFault Write) = []
 status_line (OutsideFault (Device device)) = device_line device
 status_line NoMemory = codes "no memory\n"
 status_line Done = []
+status_line Breach = []
 status_line LeftProfile = []

@@ -1,8 +1,9 @@
 -- What each status means, one line a status: the program's exit code; which events of the run are behind the bus; what the
--- sink received; and what is to blame for it.
+-- sink received; and what is to blame for it. The events of a run and of a trace are those of the script; those of an audit
+-- end with that of the first breach.
 use Rattle.std.specs.Prelude.{ℕ}
 use Rattle.svm_run.specs.declared.status.Status.{Status}
-use Rattle.svm_run.specs.declared.status.Status.TheVariants.{Done, Words, Input, OutsideFault, NoMemory, LeftProfile}
+use Rattle.svm_run.specs.declared.status.Status.TheVariants.{Done, Words, Input, Breach, OutsideFault, NoMemory, LeftProfile}
 use Rattle.svm_run.specs.declared.status.OutsideFault.TheVariants.{Read, Write, Device}
 
 pub data EventsRun : Type 0 where
@@ -14,6 +15,7 @@ pub data EventsRun : Type 0 where
   NotAllEvents : EventsRun
   -- so many of the first, up to the one whose line was not wholly received; or all, where the report was not
   EventsToLine : EventsRun
+  -- all that the job runs
   AllEvents : EventsRun
 
 -- What was printed. The text is that of the events that were run; the line is that of the status, or a part of it where
@@ -50,6 +52,7 @@ abbrev pub meaning_of : Status → Meaning
 meaning_of Done = meaning 0 AllEvents WholeText NothingOutside
 meaning_of Words = meaning 1 NoEvents LineAlone NothingOutside
 meaning_of (Input fault) = meaning 2 NoEvents LineAlone NothingOutside
+meaning_of Breach = meaning 3 AllEvents WholeText NothingOutside
 meaning_of (OutsideFault Read) = meaning 4 NoEvents LineAlone TheShelf
 meaning_of (OutsideFault Write) = meaning 4 EventsToLine PartOfText TheSink
 meaning_of (OutsideFault (Device device)) = meaning 4 NotAllEvents TextThenLine (TheDevice device)

@@ -18,7 +18,7 @@ use Rattle.svm_run.specs.declared.running.RunFault.TheVariants.{NoMemory, Bus, U
 use Rattle.svm_run.specs.declared.status.Status.{Status}
 use Rattle.svm_run.specs.Words.{Asked}
 use Rattle.svm_run.specs.declared.words.Work.{Work}
-use Rattle.svm_run.specs.declared.words.Work.TheVariants.{Run, Trace}
+use Rattle.svm_run.specs.declared.words.Work.TheVariants.{Run, Trace, Audit}
 use Rattle.svm_run.specs.declared.status.Status.TheVariants as status
 use Rattle.svm_run.specs.declared.status.OutsideFault.TheVariants as outside
 
@@ -103,6 +103,7 @@ IsOfCounts (Unprinted refusal) devices devices' before now = IsOfSink refusal be
 abbrev pub AreRead : Work → (old new events : ℕ) → Type 0
 AreRead Run old new events = (old ≤ new) × (new ≤ old + 6368 * events)
 AreRead Trace old new events = old ≤ new
+AreRead Audit old new events = (old ≤ new) × (new ≤ old + 6368 * events)
 
 -- by what the words ask for; none without words that ask for something
 abbrev pub AreReadFor : Option Asked → (old new events : ℕ) → Type 0

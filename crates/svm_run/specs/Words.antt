@@ -1,8 +1,8 @@
--- The words that the program takes: `run IMAGE SCRIPT` and `trace IMAGE SCRIPT`.
+-- The words that the program takes: `run IMAGE SCRIPT`, `trace IMAGE SCRIPT` and `audit IMAGE SCRIPT`.
 use Rattle.std.specs.Prelude.{ℕ, ◌==◌, ◌&&◌, not, List, [], ◌∷◌, Bool, false, if◌then◌else◌, Option, Some, None, codes}
 use Rattle.std.specs.Str.{bytes_eq}
 use Rattle.svm_run.specs.declared.words.Work.{Work}
-use Rattle.svm_run.specs.declared.words.Work.TheVariants.{Run, Trace}
+use Rattle.svm_run.specs.declared.words.Work.TheVariants.{Run, Trace, Audit}
 
 -- what is asked for, of the image and the script of these names
 pub record Asked : Type 0 where
@@ -17,7 +17,11 @@ is_name (b ∷ bytes) = not (b == 45)
 
 -- the work that a word names
 abbrev pub work_of : List ℕ → Option Work
-work_of word = if bytes_eq word (codes "run") then Some Run else if bytes_eq word (codes "trace") then Some Trace else None
+work_of word =
+    if bytes_eq word (codes "run") then Some Run
+    else if bytes_eq word (codes "trace") then Some Trace
+    else if bytes_eq word (codes "audit") then Some Audit
+    else None
 
 abbrev pub asked_by : Option Work → List ℕ → List ℕ → Option Asked
 asked_by None image script = None

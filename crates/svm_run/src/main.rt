@@ -1,16 +1,18 @@
 //! Runs AMD64 guests under a schedule and prints what became of them.
 //!
 //! With the words `run IMAGE SCRIPT` it runs the events of a script on the plain machine of an image, prints the line of
-//! each dump as it comes, and then the report; with `trace IMAGE SCRIPT` it prints a block of lines for each event. The job itself is `svm_run` in `top.rt`, over any shelf of files and any sink
-//! of bytes: its contract compares every answer, every printed byte and the bus with one definition, `outcome_of` in
-//! `specs/Outcome.antt`. `main` makes the real files, the bus and its devices, the real output and the counters, calls it,
-//! and ends with the status's exit code.
+//! each dump as it comes, and then the report; with `trace IMAGE SCRIPT` it prints a block of lines for each event; with
+//! `audit IMAGE SCRIPT` it prints the verdict: whether the run keeps the rules of maintenance, else its first breach. The job
+//! itself is `svm_run` in `top.rt`, over any shelf of files and any sink of bytes: its contract compares every answer, every
+//! printed byte and the bus with one definition, `outcome_of` in `specs/Outcome.antt`. `main` makes the real files, the bus
+//! and its devices, the real output and the counters, calls it, and ends with the status's exit code.
 #![tactic(auto)]
 
 ghost use Rattle.std.specs.Prelude.{◌≡◌, ◌<◌};
 
 mod dumps;
 mod inputs;
+mod printing;
 mod report;
 mod running;
 mod status;

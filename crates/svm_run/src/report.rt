@@ -7,8 +7,9 @@ ghost use Rattle.svm_model.specs.Machine.Shapes.{image_shape, world_shape, IsVcp
 ghost use Rattle.svm_model.specs.Formats.LawfulImages.{IsLawfulImage};
 ghost use Rattle.svm_model.specs.Formats.Text.{guest_lines, report as report_of, vcpu_line, vcpu_lines};
 ghost use Rattle.plain_machine.specs.Machines.{guest_in, vcpu_in};
-ghost use Rattle.svm_run.specs.Outcome.{has_ended as ended_test};
+ghost use Rattle.svm_run.specs.Outcome.{has_ended as ended_test, status_ended};
 
+use crate::status::Status;
 use image_format::Image;
 use plain_machine::PlainMachine;
 use port_bus::PortWrite;
@@ -137,7 +138,7 @@ pub fn report(
 
 /// Whether a guest of an image's machine was ended.
 #[tactic(auto, using(crate::proofs::Reports::reports))]
-pub fn has_ended(machine: &PlainMachine, image: &Image) -> bool
+fn has_ended(machine: &PlainMachine, image: &Image) -> bool
     requires lawful { IsLawfulImage image.now }
     requires shape { world_shape machine.now.world ≡ image_shape image.now }
     ensures { result ≡ ended_test machine.now.world.guests }
@@ -148,4 +149,17 @@ pub fn has_ended(machine: &PlainMachine, image: &Image) -> bool
         }
     }
     false
+}
+
+/// The status of a run of all events.
+pub fn end_status(machine: &PlainMachine, image: &Image) -> Status
+    requires lawful { IsLawfulImage image.now }
+    requires shape { world_shape machine.now.world ≡ image_shape image.now }
+    ensures { result ≡ status_ended machine.now.world.guests }
+{
+    if has_ended(machine, image) {
+        Status::LeftProfile
+    } else {
+        Status::Done
+    }
 }

@@ -36,6 +36,8 @@ pub enum Status {
     Words,
     /// The input is refused.
     Input(InputFault),
+    /// An audited run breaks a rule of maintenance.
+    Breach,
     /// Something outside failed.
     OutsideFault(OutsideFault),
     /// There was no memory.
@@ -53,6 +55,7 @@ impl Status {
             Status::Done => 0,
             Status::Words => 1,
             Status::Input(_) => 2,
+            Status::Breach => 3,
             Status::OutsideFault(_) => 4,
             Status::NoMemory => 5,
             Status::LeftProfile => 6,

@@ -65,7 +65,7 @@ fn plain_line(text: &str) -> Line
     line
 }
 
-/// The line that a status prints: none for a job that is done, and none after a write fault.
+/// The line that a status prints: none for a job that was done to its end, and none after a write fault.
 pub fn line_of(status: Status) -> Line
     ensures { result.bytes ≡ status_line status }
 {
@@ -82,8 +82,9 @@ pub fn line_of(status: Status) -> Line
         Status::OutsideFault(OutsideFault::Read) => plain_line("fault read\n"),
         Status::OutsideFault(OutsideFault::Device { device }) => line_of_device(device),
         Status::NoMemory => plain_line("no memory\n"),
-        Status::OutsideFault(OutsideFault::Write) | Status::Done | Status::LeftProfile => {
-            plain_line("")
-        }
+        Status::OutsideFault(OutsideFault::Write)
+        | Status::Done
+        | Status::Breach
+        | Status::LeftProfile => plain_line(""),
     }
 }

@@ -4,51 +4,37 @@ ghost use Rattle.fault_counts.specs.Causes.{Rose};
 ghost use Rattle.svm_model.specs.Formats.LawfulImages.{IsLawfulImage};
 ghost use Rattle.svm_model.specs.Formats.Script.{IsLawful, events_of};
 ghost use Rattle.svm_model.specs.Machine.Shapes.{image_shape, world_shape};
-ghost use Rattle.svm_run.specs.Answers.{Ends, EndsRun, HasCause, IsBeforeRun, IsDetermined, IsReached, IsRefusedAt, Receives, ReceivesLine};
+ghost use Rattle.svm_run.specs.Answers.{Ends, EndsPrinting, EndsRun, HasCause, IsBeforeRun, IsDetermined, ReceivesLine};
 ghost use Rattle.svm_run.specs.Jobs.{job, job_of, Job};
-ghost use Rattle.svm_run.specs.Outcome.{outcome_of, outcome_after, completed};
+ghost use Rattle.svm_run.specs.Outcome.{outcome_of, outcome_after, completed, status_by, PrintsReport};
 ghost use Rattle.svm_run.specs.StatusLine.{status_line};
 ghost use Rattle.svm_run.specs.Statuses.{meaning_of};
 ghost use Rattle.svm_run.specs.Stops.{status_of, AreRead, AreReadFor};
 ghost use Rattle.svm_run.specs.Words.{asked_of};
 ghost use Rattle.svm_model.specs.Machine.Bus.{Bus as BusRecord};
 ghost use Rattle.svm_model.specs.Machine.World.{world_of};
+ghost use Rattle.svm_model.specs.Formats.VerdictText.{verdict_text as verdict_line};
 
 use crate::inputs::{open_image, open_script};
-use crate::report::{has_ended, report};
+use crate::printing::{print_last, refuse};
+use crate::report::{end_status, report};
 use crate::running::{Dumps, RunFault, Teller, run_events};
 use crate::status::{OutsideFault, Status};
-use crate::status_line::line_of;
 use crate::tracing::Blocks;
 use crate::words::{Work, read_words};
-use byte_shelf::{Shelf, Sink, SinkRefusal, write_all};
+use auditor::{Verdict, audit};
+use byte_shelf::{Shelf, Sink, SinkRefusal};
 use host_memory::Steps;
 use image_format::Image;
 use plain_machine::PlainMachine;
 use port_bus::{Bus, BusState, Ports, RunEnd};
-use report_text::Tracer;
+use report_text::{Tracer, verdict_text};
 use script_format::Script;
 use std::alloc::Global;
 use std::sync::ledger::Ledger;
 
-/// Prints the line of a refusal. The status stands whatever the sink says to the line.
-fn refuse<K: Sink>(sink: &mut K, status: Status) -> Status
-    ensures same { result ≡ status }
-    ensures line { ReceivesLine (K.written sink.old) (K.written sink.new) (status_line status)
-        (Rose (K.faults sink.old) (K.faults sink.new) ⊎ Rose (K.refusals sink.old) (K.refusals sink.new)) }
-    ensures later { K.faults sink.old ≤ K.faults sink.new }
-    ensures later_refusals { K.refusals sink.old ≤ K.refusals sink.new }
-{
-    let line = line_of(status);
-    match write_all(sink, line.as_bytes()) {
-        Ok(()) => status,
-        Err(SinkRefusal::Failed) => status,
-        Err(SinkRefusal::NoMemory) => status,
-    }
-}
-
 /// Prints the report of an image's machine that has run all events.
-#[tactic(auto, using(crate::proofs::Received::received), unfolding(crate::specs::Outcome::outcome_after))]
+#[tactic(auto, unfolding(crate::specs::Outcome::outcome_after))]
 fn finish<B: Ports, K: Sink>(
     alloc: Global,
     machine: &PlainMachine,
@@ -58,23 +44,14 @@ fn finish<B: Ports, K: Sink>(
 ) -> Status
     requires lawful { IsLawfulImage image.now }
     requires shape { world_shape machine.now.world ≡ image_shape image.now }
-    ensures exact { IsDetermined result → result ≡ (outcome_after [] (record { world = machine.now.world; bus = B.bus bus.now })).status }
-    ensures reached { (count : ℕ) → IsReached (meaning_of result).events count count }
-    ensures not_refused { (count : ℕ) (before : BusRecord) (run : Job) → IsRefusedAt (meaning_of result).events count before run }
-    ensures run { IsBeforeRun result → ⊥ }
-    ensures printed { Receives (meaning_of result).printed [] (outcome_after [] (record { world = machine.now.world; bus = B.bus bus.now })).text (status_line result) (K.written sink.old) (K.written sink.new)
-        (Rose (K.faults sink.old) (K.faults sink.new) ⊎ Rose (K.refusals sink.old) (K.refusals sink.new)) }
-    ensures cause { (s t : ℕ) (d e : List (Option ℕ)) → HasCause (meaning_of result).blame s t (K.faults sink.old) (K.faults sink.new) d e }
+    ensures { EndsPrinting (outcome_after [] (record { world = machine.now.world; bus = B.bus bus.now })).status result
+        (outcome_after [] (record { world = machine.now.world; bus = B.bus bus.now })).text (K.written sink.old) (K.written sink.new)
+        (Rose (K.faults sink.old) (K.faults sink.new) ⊎ Rose (K.refusals sink.old) (K.refusals sink.new)) (K.faults sink.old) (K.faults sink.new) }
 {
     let Ok(text) = report(alloc, machine, image, bus.writes()) else {
         return refuse(sink, Status::NoMemory);
     };
-    match write_all(sink, &text) {
-        Ok(()) if has_ended(machine, image) => Status::LeftProfile,
-        Ok(()) => Status::Done,
-        Err(SinkRefusal::Failed) => Status::OutsideFault(OutsideFault::Write),
-        Err(SinkRefusal::NoMemory) => refuse(sink, Status::NoMemory),
-    }
+    print_last(sink, &text, end_status(machine, image))
 }
 
 /// The status of a run that ended early.
@@ -104,6 +81,7 @@ fn run_told<T: Teller, B: Ports, K: Sink, L: Ledger>(
     sink: &mut K,
     steps: &mut Steps<L>,
 ) -> Status
+    requires report { PrintsReport T.work }
     requires ready { T.ready teller.old (world_of image.now) }
     requires lawful { IsLawfulImage image.now }
     requires script { IsLawful (image_shape image.now) script.now }
@@ -125,7 +103,22 @@ fn run_told<T: Teller, B: Ports, K: Sink, L: Ledger>(
     }
 }
 
-/// Runs a script on the machine of an image, and tells of its events as is asked for.
+/// Prints a verdict.
+fn print_verdict<K: Sink>(alloc: Global, verdict: &Verdict, sink: &mut K) -> Status
+    ensures { EndsPrinting (status_by verdict.now) result (verdict_line verdict.now) (K.written sink.old) (K.written sink.new)
+        (Rose (K.faults sink.old) (K.faults sink.new) ⊎ Rose (K.refusals sink.old) (K.refusals sink.new)) (K.faults sink.old) (K.faults sink.new) }
+{
+    let Ok(text) = verdict_text(alloc, verdict) else {
+        return refuse(sink, Status::NoMemory);
+    };
+    let status = match verdict {
+        Verdict::Keeps { .. } => Status::Done,
+        Verdict::Breach(_) => Status::Breach,
+    };
+    print_last(sink, &text, status)
+}
+
+/// Runs a script on the machine of an image, and tells of its events as is asked for, or audits it.
 #[tactic(auto, using(crate::proofs::Stops::stops))]
 fn run_job<B: Ports, K: Sink, L: Ledger>(
     alloc: Global,
@@ -156,6 +149,10 @@ fn run_job<B: Ports, K: Sink, L: Ledger>(
             let mut blocks = Blocks { alloc, tracer };
             run_told(alloc, &mut blocks, image, script, bus, sink, steps)
         }
+        Work::Audit => match audit(alloc, image, script, bus, steps) {
+            Ok(verdict) => print_verdict(alloc, &verdict, sink),
+            Err(end) => refuse(sink, status_of(RunFault::Bus(end))),
+        },
     }
 }
 

@@ -3,12 +3,13 @@ ghost use Rattle.std.specs.Prelude.{◌≡◌, map};
 ghost use Rattle.std.specs.Option.{option_map};
 ghost use Rattle.svm_run.specs.Words.{asked_of, is_name, work_of as work_named};
 
-/// What is asked for of an image and a script: the report of the run, with the line of each dump before it, or a trace, in
-/// which each event has a block.
+/// What is asked for of an image and a script: the report of the run, with the line of each dump before it; a trace, in
+/// which each event has a block; or the verdict on the run.
 #[derive(Clone, Copy)]
 pub enum Work {
     Run,
     Trace,
+    Audit,
 }
 
 /// What the words ask for, and the names of the image and the script.
@@ -26,6 +27,7 @@ fn work_of(word: &str) -> Option<Work>
     match word {
         "run" => Some(Work::Run),
         "trace" => Some(Work::Trace),
+        "audit" => Some(Work::Audit),
         _ => None,
     }
 }
@@ -40,7 +42,7 @@ fn is_a_name(word: &str) -> bool
     }
 }
 
-/// What the words ask for, where they are `run IMAGE SCRIPT` or `trace IMAGE SCRIPT`.
+/// What the words ask for, where they are `run IMAGE SCRIPT`, `trace IMAGE SCRIPT` or `audit IMAGE SCRIPT`.
 pub fn read_words<'a>(words: &[&'a str]) -> Option<Asked<'a>>
     ensures { option_map (λ a. record { work = a.work; image = a.image.now; script = a.script.now }) result ≡ asked_of (map (λ w. w.now) words.now) }
 {

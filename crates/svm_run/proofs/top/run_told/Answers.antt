@@ -20,25 +20,25 @@ pub returns-in-Ok-run_events-clause-exact : goal.returns-in-Ok-run_events-clause
 returns-in-Ok-run_events-clause-exact g c = λ answer.
     let same : c.image.inside.cpus ≡ c.args.image.now.cpus = ap (λ (i : Image). i.cpus) c.image.view_is in
     c.finish.ensures.exact answer
-    ∙ status-completed _ _ _ _ _ c.args.image.now c.args.script.now c.in-Ok.ensures.world
+    ∙ status-completed _ c.requires.report _ _ _ _ c.args.image.now c.args.script.now c.in-Ok.ensures.world
     (c.in-Ok-run_events.ensures.world ∙ ap (λ n. (plain_run c.in-Ok.machine.world (g.B.Ports.bus c.args.bus.now) (events_of n c.args.script.now)).world) same)
     (c.in-Ok-run_events.ensures.bus ∙ ap (λ n. (plain_run c.in-Ok.machine.world (g.B.Ports.bus c.args.bus.now) (events_of n c.args.script.now)).bus) same)
 
 pub returns-in-Ok-run_events-clause-ends : goal.returns-in-Ok-run_events-clause-ends
 returns-in-Ok-run_events-clause-ends g c =
     let same : c.image.inside.cpus ≡ c.args.image.now.cpus = ap (λ (i : Image). i.cpus) c.image.view_is in
-    ends-finished _ _ _ _ _ _ c.args.image.now c.args.script.now _ _ _ _ _ c.in-Ok.ensures.world
+    ends-finished _ c.requires.report _ _ _ _ _ c.args.image.now c.args.script.now _ _ _ _ _ _ _ c.in-Ok.ensures.world
     (c.in-Ok-run_events.ensures.world ∙ ap (λ n. (plain_run c.in-Ok.machine.world (g.B.Ports.bus c.args.bus.now) (events_of n c.args.script.now)).world) same)
     (c.in-Ok-run_events.ensures.bus ∙ ap (λ n. (plain_run c.in-Ok.machine.world (g.B.Ports.bus c.args.bus.now) (events_of n c.args.script.now)).bus) same)
     (c.in-Ok-run_events.ensures.printed
     ∙ ap (λ n. appended (g.K.Sink.written c.args.sink.now) (texts_of g.T.Teller.work c.in-Ok.machine.world (g.B.Ports.bus c.args.bus.now) (events_of n c.args.script.now))) same)
-    c.finish.ensures.reached c.finish.ensures.not_refused c.finish.ensures.run (rose-later _ _ _ _ _ _ c.run_events.ensures.later_faults c.run_events.ensures.later_refusals) c.finish.ensures.printed
+    (rose-later _ _ _ _ _ _ c.run_events.ensures.later_faults c.run_events.ensures.later_refusals) c.finish.ensures
 
 pub returns-in-Ok-run_events-clause-cause : goal.returns-in-Ok-run_events-clause-cause
 returns-in-Ok-run_events-clause-cause g c = λ s t. cause_later (meaning_of c.finish.result).blame s t _ _ _ _ _ c.run_events.ensures.later_faults (c.finish.ensures.cause s t _ _)
 
 pub returns-in-Ok-run_events-clause-steps : goal.returns-in-Ok-run_events-clause-steps
-returns-in-Ok-run_events-clause-steps g c = reads-completed _ _ _ _ c.args.image.now c.args.script.now c.requires.count c.run_events.ensures.steps
+returns-in-Ok-run_events-clause-steps g c = reads-completed _ c.requires.report _ _ _ c.args.image.now c.args.script.now c.requires.count c.run_events.ensures.steps
 
 pub returns-clause-ends : goal.returns-clause-ends
 returns-clause-ends g c =
@@ -47,7 +47,7 @@ returns-clause-ends g c =
     (g.K.Sink.written c.args.sink.now)
     (g.K.Sink.written c.run_events.new.sink) in
     answered _ _ _ _ _ _ _ _ (c.refuse-in-Err.ensures.same ∙ c.status_of.ensures)
-    (ends-early _ c.in-Err.fault _ _ _ c.args.image.now c.args.script.now _ _ _ _ _ c.in-Ok.ensures.world (subst P same c.in-Err.ensures.ended)
+    (ends-early _ c.requires.report c.in-Err.fault _ _ _ c.args.image.now c.args.script.now _ _ _ _ _ c.in-Ok.ensures.world (subst P same c.in-Err.ensures.ended)
     (rose-later _ _ _ _ _ _ c.run_events.ensures.later_faults c.run_events.ensures.later_refusals)
     (printed_by _ _ _ _ _ c.status_of.ensures c.refuse-in-Err.ensures.line))
 
@@ -62,4 +62,4 @@ returns-clause-cause g c = λ s t.
     cause_of _ _ _ _ _ _ _ _ (c.refuse-in-Err.ensures.same ∙ c.status_of.ensures) (caused c.in-Err.fault s t _ _ _ _ _ c.refuse-in-Err.ensures.later c.in-Err.ensures.cause)
 
 pub returns-clause-steps : goal.returns-clause-steps
-returns-clause-steps g c = reads-completed _ _ _ _ c.args.image.now c.args.script.now c.requires.count c.run_events.ensures.steps
+returns-clause-steps g c = reads-completed _ c.requires.report _ _ _ c.args.image.now c.args.script.now c.requires.count c.run_events.ensures.steps
