@@ -140,7 +140,7 @@ module _ (bus : Bus) (image : Image) (script : Script) where
         reached = (let short = cut-short NoRoom now cut in omega (arith, short));
         refused_at = tt;
         bus = elim at.cause [
-          inl p ↦ inl p.1
+          | inl p ↦ inl p.1
           | inr p ↦ inr (let P : Option Event → Type 0 = λ o. IsWithin l o now in subst P (sym cut.next) (at.call, p.0, at.reached))
         ];
         printed = at_once old new (events_text (cut.count - 1) bus it) (text_until cut.count bus it) line r (nothing-before (cut.count - 1)) h;
@@ -151,7 +151,7 @@ module _ (bus : Bus) (image : Image) (script : Script) where
   ends-unaudited (FailedDevice device) now old new r early h = ends-failed device now old new _ r early h
   ends-unaudited NoRoom now old new r early h =
       elim early [
-        inl same ↦ (let P : Bus → Type 0 = λ b. EndsRun (meaning_of (status_of (fault.Bus NoRoom))) (status_line (status_of (fault.Bus NoRoom))) it bus b old new r in subst P (sym same) (ends-unstarted _ _ _ it bus old new r h))
+        | inl same ↦ (let P : Bus → Type 0 = λ b. EndsRun (meaning_of (status_of (fault.Bus NoRoom))) (status_line (status_of (fault.Bus NoRoom))) it bus b old new r in subst P (sym same) (ends-unstarted _ _ _ it bus old new r h))
         | inr cut ↦ ends-starved now old new _ r cut h
       ]
 

@@ -112,6 +112,8 @@ fn run<L: Ledger, M: Ledger>(
 }
 
 #[cfg(test)]
+mod audit_tests;
+#[cfg(test)]
 mod guest_tests;
 #[cfg(test)]
 mod tests;

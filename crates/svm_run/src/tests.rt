@@ -110,8 +110,6 @@ const RUN: [&str; 3] = ["run", "one.img", "one.script"];
 
 const TRACE: [&str; 3] = ["trace", "one.img", "one.script"];
 
-const AUDIT: [&str; 3] = ["audit", "one.img", "one.script"];
-
 pub const HALT: Job<'static> = Job {
     words: &RUN,
     cpus: 1,
@@ -199,18 +197,6 @@ const RIGHT: &str =
 const TRACED: &str =
     "event 0 place 0 0.0\nevent 1 run 0 0.0\nvcpu 0.0 l1 halted rip=5001 rfl=2 cr0=80010033 cr3=1000 cr4=a0 efer=d00\nmem 0 at=1000 bytes=27\nmem 0 at=2000 bytes=27\nmem 0 at=3000 bytes=27\nmem 0 at=4028 bytes=27\nevents 2\nguest 0 live\nvcpu 0.0 l1 halted rip=5001 rfl=2 cr0=80010033 cr3=1000 cr4=a0 efer=d00\n";
 
-/// MOV of 7007h to the entry of linear page 6, which is mapped to its table in frame 4, and a read of a byte there.
-const STALE: Job<'static> = Job {
-    words: &AUDIT,
-    entry: 0x4007,
-    code: &[
-        0xc7, 0x04, 0x25, 0x30, 0x60, 0x00, 0x00, 0x07, 0x70, 0x00, 0x00, 0x8a, 0x04, 0x25, 0x00,
-        0x60, 0x00, 0x00,
-    ],
-    script: "place 0 0 0\nrun 0 2\n",
-    ..HALT
-};
-
 #[test]
 fn jobs_end_as_the_formats_say(rt: HostRuntime) -> Result<(), Fail> {
     let table = [
@@ -240,37 +226,6 @@ fn jobs_end_as_the_formats_say(rt: HostRuntime) -> Result<(), Fail> {
             },
             Status::OutsideFault(OutsideFault::Write),
             "event 0 place 0 0.0\n",
-        ),
-        (
-            Job {
-                words: &AUDIT,
-                ..HALT
-            },
-            Status::Done,
-            "keeps events=2\n",
-        ),
-        (
-            STALE,
-            Status::Breach,
-            "breach event=2 cpu=0 vcpu=0.0 translation asid=0 page=6 kept=4 plain=frame:7\n",
-        ),
-        (
-            Job {
-                sink_fails: Some(0),
-                ..STALE
-            },
-            Status::OutsideFault(OutsideFault::Write),
-            "",
-        ),
-        // OUT 10h, AL.
-        (
-            Job {
-                code: &[0xe6, 0x10],
-                device_fails: Some(0),
-                ..STALE
-            },
-            Status::OutsideFault(OutsideFault::Device { device: 1 }),
-            "fault device 1\n",
         ),
         (
             Job {
