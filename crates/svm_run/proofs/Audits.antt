@@ -1,5 +1,5 @@
 -- How an audit ends.
-use Rattle.std.proofs.Common.{◌≡◌, ◌∙◌, ℕ, ◌+◌, ◌*◌, ◌-◌, ◌≤◌, ◌<◌, List, [], ◌∷◌, Option, Some, None, length, slice_get, take, ap, refl, sym, subst, arith, inl, inr}
+use Rattle.std.proofs.Common.{◌≡◌, ◌∙◌, ℕ, ◌+◌, ◌*◌, ◌-◌, ◌≤◌, ◌<◌, List, [], ◌∷◌, Option, length, slice_get, take, ap, refl, sym, subst, arith, inl, inr}
 use Rattle.std.proofs.lemmas.Option.{slice_get_within}
 use Rattle.byte_shelf.specs.Sink.{appended}
 use Rattle.svm_model.specs.Audit.Breaches.{nothing_known}
@@ -16,7 +16,7 @@ use Rattle.svm_model.specs.declared.names.RunEnd.{RunEnd}
 use Rattle.svm_model.specs.declared.names.RunEnd.TheVariants.{Device as FailedDevice, NoMemory as NoRoom}
 use Rattle.auditor.specs.CutOffs.{EndsEarly, IsCutAt, IsCutOff}
 use Rattle.auditor.proofs.LengthLemmas.{goes_on, is_led}
-use Rattle.svm_run.specs.Answers.{EndsPrinting, EndsRun, HandsOverIt, IsReached, IsWithin, Receives, ReceivesLine, StandsBehind}
+use Rattle.svm_run.specs.Answers.{EndsPrinting, EndsRun, HandsOverIt, IsWithin, Receives, ReceivesLine}
 use Rattle.svm_run.specs.Jobs.{Job, job}
 use Rattle.svm_run.specs.Outcome.{completed, events_text, led_until, outcome_audited, status_by, text_until, texts_of}
 use Rattle.svm_run.specs.StatusLine.{status_line}
@@ -25,12 +25,12 @@ use Rattle.svm_run.specs.Stops.{AreRead, status_of}
 use Rattle.svm_run.specs.declared.running.RunFault.TheVariants as fault
 use Rattle.svm_run.specs.declared.status.Status.{Status}
 use Rattle.svm_run.specs.declared.words.Work.TheVariants.{Audit}
-use Rattle.svm_run.proofs.Endings.{ends-unstarted, received-all, stands-behind, text-before, text-done}
-use Rattle.svm_run.proofs.Received.{appended-nothing, at_once, because}
+use Rattle.svm_run.proofs.Endings.{ends-unstarted, received-all, stands-audited, text-before, text-done}
+use Rattle.svm_run.proofs.Received.{appended-nothing, at_once}
 use Rattle.svm_run.proofs.Runs.{starts-at-0}
 
 -- no event prints anything
-nothing-told : (w : World) (bus : Bus) (events : List Event) → texts_of Audit w bus events ≡ []
+pub nothing-told : (w : World) (bus : Bus) (events : List Event) → texts_of Audit w bus events ≡ []
 unfolding texts_of
 nothing-told w bus [] = refl
 nothing-told w bus (event ∷ events) = nothing-told (plain_event w bus event).world (plain_event w bus event).bus events
@@ -83,7 +83,7 @@ module _ (bus : Bus) (image : Image) (script : Script) where
         count = all;
         reached = last.reached all;
         refused_at = last.not_refused all bus it;
-        bus = stands-behind (meaning_of status).events Audit (led_until all bus it) (slice_get events all) now (bus-audited now h);
+        bus = stands-audited (meaning_of status).events bus (led_until all bus it) (slice_get events all) now (bus-audited now h);
         printed =
             let P : List ℕ → Type 0 = λ text. Receives (meaning_of status).printed before text (status_line status) old new r in
             subst P (text-audited count whole ∙ sym (text-done bus it))

@@ -14,7 +14,7 @@ use Rattle.svm_model.specs.Machine.Runs.{Led, plain_run}
 use Rattle.svm_model.specs.Machine.World.{World, world_of}
 use Rattle.svm_model.specs.declared.names.Event.{Event}
 use Rattle.svm_model.specs.declared.names.RunEnd.TheVariants.{Device as FailedDevice, NoMemory as NoRoom}
-use Rattle.svm_run.specs.Answers.{Ends, EndsPrinting, EndsRun, HandsOverIt, HasCause, IsBeforeRun, IsCutBehind, IsDetermined, IsOfReading, IsReached, IsRefusedAt, Receives, ReceivesLine, ReceivesPart, StandsBehind}
+use Rattle.svm_run.specs.Answers.{Ends, EndsPrinting, EndsRun, HandsOverIt, HasCause, IsBeforeRun, IsCutBehind, IsDetermined, IsOfReading, IsReached, Receives, ReceivesLine, ReceivesPart, StandsBehind}
 use Rattle.svm_run.specs.Jobs.{Job, job, job_with_names}
 use Rattle.svm_run.specs.Outcome.{Outcome, PrintsReport, completed, event_text, events_text, outcome_after, led_until, text_until, texts_of}
 use Rattle.svm_run.specs.StatusLine.{status_line}
@@ -27,7 +27,7 @@ use Rattle.svm_run.specs.declared.status.Status.TheVariants.{Done, Words, Input,
 use Rattle.svm_run.specs.declared.status.OutsideFault.TheVariants.{Read, Write, Device}
 use Rattle.svm_run.specs.Words.{Asked}
 use Rattle.svm_run.specs.declared.words.Work.{Work}
-use Rattle.svm_run.specs.declared.words.Work.TheVariants.{Run, Trace, Audit}
+use Rattle.svm_run.specs.declared.words.Work.TheVariants.{Run, Trace, Audit, Made}
 use Rattle.svm_run.proofs.Events.{led, led_same, texts-grow, texts_next, texts_none}
 use Rattle.svm_run.proofs.Received.{appended-nothing, appended-twice, at_once, because, behind_cut, behind_text, cut_after, cut_behind, part_after}
 use Rattle.svm_run.proofs.Runs.{led-some, bus-none, bus-some, bus-all, events-completed, outcome-reported}
@@ -51,15 +51,27 @@ text-before count bus j h = rw (other count (completed bus j).events h) refl
 text-all : (work : Work) (told : PrintsReport work) (bus : Bus) (image : Image) (script : Script) → text_until (length (events_of image.cpus script)) bus (job work image script) ≡ (completed bus (job work image script)).text
 text-all work told bus image script = ap (λ n. text_until n bus (job work image script)) (sym (events-completed work told bus image script)) ∙ text-done bus (job work image script)
 
--- where the bus is behind so many events
-pub stands-behind : (events : EventsRun) (work : Work) (l : Led) (next : Option Event) (after : Bus) → after ≡ l.bus → StandsBehind events work l next after
-stands-behind NoEvents work l next after h = h
-stands-behind FirstEvents Run l next after h = h
-stands-behind FirstEvents Trace l next after h = h
-stands-behind FirstEvents Audit l next after h = inl h
-stands-behind NotAllEvents work l next after h = h
-stands-behind EventsToLine work l next after h = h
-stands-behind AllEvents work l next after h = h
+-- where the bus is behind so many events of an audit
+pub stands-audited : (events : EventsRun) (before : Bus) (l : Led) (next : Option Event) (after : Bus) → after ≡ l.bus → StandsBehind Audit events before l next after
+stands-audited NoEvents before l next after h = h
+stands-audited FirstEvents before l next after h = inl h
+stands-audited NotAllEvents before l next after h = h
+stands-audited EventsToLine before l next after h = h
+stands-audited AllEvents before l next after h = h
+
+-- of a job that prints a report
+stands-behind : (work : Work) (told : PrintsReport work) (events : EventsRun) (before : Bus) (l : Led) (next : Option Event) (after : Bus) → after ≡ l.bus → StandsBehind work events before l next after
+stands-behind Run told ran before l next after h = h
+stands-behind Trace told ran before l next after h = h
+stands-behind Audit told ran before l next after h = absurd told
+stands-behind (Made numbers) told ran before l next after h = absurd told
+
+-- where no event was done
+pub stands-still : (work : Work) (events : EventsRun) (bus : Bus) (l : Led) (next : Option Event) → bus ≡ l.bus → StandsBehind work events bus l next bus
+stands-still Run ran bus l next h = h
+stands-still Trace ran bus l next h = h
+stands-still Audit ran bus l next h = stands-audited ran bus l next bus h
+stands-still (Made numbers) ran bus l next h = refl
 
 -- of all events this is printed
 whole-text : (work : Work) (told : PrintsReport work) (w v : World) (bus now : Bus) (image : Image) (script : Script) → w ≡ world_of image → v ≡ (plain_run w bus (events_of image.cpus script)).world → now ≡ (plain_run w bus (events_of image.cpus script)).bus →
@@ -99,7 +111,7 @@ ends-unstarted code blame line j bus old new r h = record {
   count = 0;
   reached = omega arith;
   refused_at = tt;
-  bus = stands-behind FirstEvents j.work (led_until 0 bus j) (slice_get (events_of j.image.cpus j.script) 0) bus (bus-none bus j);
+  bus = stands-still j.work FirstEvents bus (led_until 0 bus j) (slice_get (events_of j.image.cpus j.script) 0) (bus-none bus j);
   printed = at_once old new (events_text 0 bus j) (text_until 0 bus j) line r (before-none bus j) h;
 }
 
@@ -140,7 +152,7 @@ ends-finished work told status w v bus now image script old mid new r s k m e f 
           let P : ℕ → Type 0 = λ n. IsReached (meaning_of status).events count n in
           subst P (sym (events-completed work told bus image script)) (last.reached count);
       refused_at = last.not_refused count bus j;
-      bus = stands-behind (meaning_of status).events work (led_until count bus j) (slice_get (events_of image.cpus script) count) now (bus-all work w bus now image script e g);
+      bus = stands-behind work told (meaning_of status).events bus (led_until count bus j) (slice_get (events_of image.cpus script) count) now (bus-all work w bus now image script e g);
       printed =
           let P : List ℕ → Type 0 = λ text. Receives (meaning_of status).printed before text (status_line status) old new s in
           subst P (whole-text work told w v bus now image script e f g) all;
@@ -169,7 +181,7 @@ ends-refused work told code blame line w bus now image script old mid new r e cu
           let P : World → Type 0 = λ u. HandsOverIt u (led_until stop.count bus j).bus (slice_get (events_of image.cpus script) stop.count) in
           let Q : Bus → Type 0 = λ b. HandsOverIt (plain_run w bus (take stop.count (events_of image.cpus script))).world b (slice_get (events_of image.cpus script) stop.count) in
           subst P (ap (λ (l : Led). l.world) (led-some work w bus image script stop.count e)) (subst Q there cut.refused);
-      bus = stands-behind NotAllEvents work (led_until stop.count bus j) (slice_get (events_of image.cpus script) stop.count) now there;
+      bus = stands-behind work told NotAllEvents bus (led_until stop.count bus j) (slice_get (events_of image.cpus script) stop.count) now there;
       printed =
           let P : Option (List ℕ) → Type 0 = λ o. ReceivesLine o new line r in
           subst P (stop.printed ∙ ap (appended old) (sym (text-at work told w bus image script stop.count e stop.short))) h;
@@ -186,7 +198,7 @@ ends-stopped work told code blame line w bus now image script old mid new r e st
       count = stop.count;
       reached = (let all = events-completed work told bus image script in omega (arith, stop.short, all));
       refused_at = tt;
-      bus = stands-behind FirstEvents work (led_until stop.count bus j) (slice_get (events_of image.cpus script) stop.count) now (bus-some work w bus now image script stop.count e stop.bus);
+      bus = stands-behind work told FirstEvents bus (led_until stop.count bus j) (slice_get (events_of image.cpus script) stop.count) now (bus-some work w bus now image script stop.count e stop.bus);
       printed =
           let P : List ℕ → Type 0 = λ text. ReceivesPart old new (events_text (stop.count - 1) bus j) text line r in
           subst P (append-nil front ∙ sym (text-at work told w bus image script stop.count e stop.short))
@@ -253,7 +265,7 @@ ends-cut work told code blame w bus now image script n old mid new (Some event) 
       count = n + 1;
       reached = (let all = events-completed work told bus image script in omega (arith, cut.0, all));
       refused_at = tt;
-      bus = stands-behind EventsToLine work (led_until (n + 1) bus j) (slice_get (events_of image.cpus script) (n + 1)) now (bus-some work w bus now image script (n + 1) e cut.1);
+      bus = stands-behind work told EventsToLine bus (led_until (n + 1) bus j) (slice_get (events_of image.cpus script) (n + 1)) now (bus-some work w bus now image script (n + 1) e cut.1);
       printed =
           let P : List ℕ → Type 0 = λ t. IsCutBehind old new before t in
           let Q : Option (List ℕ) → Type 0 = λ o. IsCutShort (appended old (texts_of work w bus (take n (events_of image.cpus script)))) o (event_text work (plain_run w bus (take n (events_of image.cpus script))).world (plain_run w bus (take n (events_of image.cpus script))).bus event) in
@@ -274,7 +286,7 @@ ends-full work told code blame line w bus now image script n old mid new (Some e
       count = n + 1;
       reached = (let all = events-completed work told bus image script in omega (arith, cut.0, all));
       refused_at = tt;
-      bus = stands-behind FirstEvents work (led_until (n + 1) bus j) (slice_get (events_of image.cpus script) (n + 1)) now (bus-some work w bus now image script (n + 1) e cut.1);
+      bus = stands-behind work told FirstEvents bus (led_until (n + 1) bus j) (slice_get (events_of image.cpus script) (n + 1)) now (bus-some work w bus now image script (n + 1) e cut.1);
       printed =
           let P : List ℕ → Type 0 = λ t. ReceivesPart old new before t line r in
           subst P (sym text.1)
@@ -341,13 +353,16 @@ cause_later WantOfMemory s t k l m d e less h = tt
 
 -- Before a run.
 
+unmoved : (j : Job) (bus : Bus) → StandsBehind j.work NoEvents bus (led_until 0 bus j) (slice_get (events_of j.image.cpus j.script) 0) bus
+unmoved j bus = stands-still j.work NoEvents bus (led_until 0 bus j) (slice_get (events_of j.image.cpus j.script) 0) (bus-none bus j)
+
 unread : (status : Status) (j : Job) (s t : ℕ) (bus : Bus) (old new : Option (List ℕ)) (r : Type 0) → IsOfReading status s t →
     ReceivesLine old new (status_line status) r → Ends status (Ok j) bus bus old new r
 unread Done j s t bus old new r h k = absurd h
 unread Words j s t bus old new r h k = absurd h
-unread (Input fault) j s t bus old new r h k = record { count = 0; reached = refl; refused_at = tt; bus = bus-none bus j; printed = k }
+unread (Input fault) j s t bus old new r h k = record { count = 0; reached = refl; refused_at = tt; bus = unmoved j bus; printed = k }
 unread Breach j s t bus old new r h k = absurd h
-unread (OutsideFault Read) j s t bus old new r h k = record { count = 0; reached = refl; refused_at = tt; bus = bus-none bus j; printed = k }
+unread (OutsideFault Read) j s t bus old new r h k = record { count = 0; reached = refl; refused_at = tt; bus = unmoved j bus; printed = k }
 unread (OutsideFault Write) j s t bus old new r h k = absurd h
 unread (OutsideFault (Device device)) j s t bus old new r h k = absurd h
 unread NoMemory j s t bus old new r h k = ends-unstarted _ _ _ j bus old new r k

@@ -2,11 +2,14 @@ pub mod Audits
 pub mod BlockLemmas
 pub mod Endings
 pub mod Events
-pub mod Firsts
+pub mod Generated
+pub mod NoDeviceLemmas
+pub mod NumberWords
 pub mod Printed
 pub mod Received
 pub mod Reports
 pub mod Runs
 pub mod Shown
 pub mod Stops
+pub mod SummaryLemmas
 pub mod TracedLemmas

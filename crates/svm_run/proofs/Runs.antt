@@ -12,7 +12,7 @@ use Rattle.svm_run.specs.Jobs.{Job, job}
 use Rattle.svm_run.specs.Outcome.{Outcome, PrintsReport, completed, outcome_after, outcome_for, led_until, texts_of}
 use Rattle.svm_run.specs.Stops.{AreRead}
 use Rattle.svm_run.specs.declared.words.Work.{Work}
-use Rattle.svm_run.specs.declared.words.Work.TheVariants.{Run, Trace, Audit}
+use Rattle.svm_run.specs.declared.words.Work.TheVariants.{Run, Trace, Audit, Made}
 use Rattle.svm_run.proofs.Events.{led, led_same}
 
 -- a job that prints a report runs all events
@@ -20,6 +20,7 @@ pub outcome-reported : (work : Work) (w : World) (bus : Bus) (events : List Even
 outcome-reported Run w bus events told = refl
 outcome-reported Trace w bus events told = refl
 outcome-reported Audit w bus events told = absurd told
+outcome-reported (Made numbers) w bus events told = absurd told
 
 -- the status is that of where the run leads
 pub status-completed : (work : Work) (told : PrintsReport work) (w v : World) (bus now : Bus) (image : Image) (script : Script) → w ≡ world_of image → v ≡ (plain_run w bus (events_of image.cpus script)).world →

@@ -14,7 +14,7 @@ use Rattle.svm_run.specs.Outcome.{texts_of}
 use Rattle.svm_run.specs.Stops.{AreRead, EndsEvent, EndsEvents, IsOfCounts, IsStoppedAt, IsUndone, text_at}
 use Rattle.svm_run.specs.declared.running.RunFault.{RunFault}
 use Rattle.svm_run.specs.declared.words.Work.{Work}
-use Rattle.svm_run.specs.declared.words.Work.TheVariants.{Run, Trace, Audit}
+use Rattle.svm_run.specs.declared.words.Work.TheVariants.{Run, Trace, Audit, Made}
 use Rattle.svm_run.specs.declared.running.RunFault.TheVariants.{NoMemory, Bus, Unprinted}
 use Rattle.svm_run.proofs.Events.{led, led_next}
 
@@ -69,21 +69,25 @@ pub read_none : (work : Work) (n : ℕ) → AreRead work n n 0
 read_none Run n = (omega arith, omega arith)
 read_none Trace n = omega arith
 read_none Audit n = (omega arith, omega arith)
+read_none (Made numbers) n = (omega arith, omega arith)
 
 pub read_next : (work : Work) (old mid new events : ℕ) → AreRead work old mid events → AreRead work mid new 1 → AreRead work old new (events + 1)
 read_next Run old mid new events h k = (omega (arith, h.0, k.0), omega (arith, h.1, k.1))
 read_next Trace old mid new events h k = omega (arith, h, k)
 read_next Audit old mid new events h k = (omega (arith, h.0, k.0), omega (arith, h.1, k.1))
+read_next (Made numbers) old mid new events h k = (omega (arith, h.0, k.0), omega (arith, h.1, k.1))
 
 -- fewer events are no more reads
 pub read_most : (work : Work) (old new events most : ℕ) → events ≤ most → AreRead work old new events → AreRead work old new most
 read_most Run old new events most few h = (h.0, omega (arith, few, h.1))
 read_most Trace old new events most few h = h
 read_most Audit old new events most few h = (h.0, omega (arith, few, h.1))
+read_most (Made numbers) old new events most few h = (h.0, omega (arith, few, h.1))
 
 pub read_still : (work : Work) (old new events : ℕ) → new ≡ old → AreRead work old new events
 read_still Run old new events e = (omega (arith, e), omega (arith, e))
 read_still Trace old new events e = omega (arith, e)
 read_still Audit old new events e = (omega (arith, e), omega (arith, e))
+read_still (Made numbers) old new events e = (omega (arith, e), omega (arith, e))
 
 pub ruleset stops = (reads-few, read_none, read_still, read_most)

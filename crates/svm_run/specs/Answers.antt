@@ -18,7 +18,7 @@ use Rattle.svm_run.specs.declared.status.Status.{Status}
 use Rattle.svm_run.specs.declared.status.Status.TheVariants.{Input, OutsideFault, NoMemory}
 use Rattle.svm_run.specs.declared.status.OutsideFault.TheVariants.{Read}
 use Rattle.svm_run.specs.declared.words.Work.{Work}
-use Rattle.svm_run.specs.declared.words.Work.TheVariants.{Audit}
+use Rattle.svm_run.specs.declared.words.Work.TheVariants.{Audit, Made}
 
 -- What a sink received.
 
@@ -73,16 +73,18 @@ IsWithin led None after = ⊥
 IsWithin led (Some event) after = (call : ℕ) × HasTurn led.world event × (after ≡ bus_reached call led.world led.bus event)
 
 -- The bus is behind events that led here. Where an audit had no memory for what the next one tells it may be within that.
-abbrev pub StandsBehind : EventsRun → Work → Led → Option Event → Bus → Type 0
-StandsBehind FirstEvents Audit led next after = (after ≡ led.bus) ⊎ IsWithin led next after
-StandsBehind _ _ led next after = after ≡ led.bus
+-- Generated input has a bus of its own, and this one stays as it was.
+abbrev pub StandsBehind : Work → EventsRun → (before : Bus) → Led → Option Event → (after : Bus) → Type 0
+StandsBehind (Made numbers) _ before led next after = after ≡ before
+StandsBehind Audit FirstEvents before led next after = (after ≡ led.bus) ⊎ IsWithin led next after
+StandsBehind _ _ before led next after = after ≡ led.bus
 
 -- The run of a job came so far: one number of events says where the bus is and what was printed.
 pub record EndsRun (m : Meaning) (line : List ℕ) (job : Job) (before after : Bus) (old new : Option (List ℕ)) (refused : Type 0) : Type 0 where
   pub count : ℕ
   pub reached : IsReached m.events count (completed before job).events
   pub refused_at : IsRefusedAt m.events count before job
-  pub bus : StandsBehind m.events job.work (led_until count before job) (slice_get (events_of job.image.cpus job.script) count) after
+  pub bus : StandsBehind job.work m.events before (led_until count before job) (slice_get (events_of job.image.cpus job.script) count) after
   pub printed : Receives m.printed (events_text (count - 1) before job) (text_until count before job) line old new refused
 
 -- the program may end so before it has a job

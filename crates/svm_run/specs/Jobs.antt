@@ -1,5 +1,6 @@
 -- What words over the told files name: a job, which is an image, a script for it and what is asked for, or a status that ends
--- the program before any event. The order of refusals is the order of the cases.
+-- the program before any event. The order of refusals is the order of the cases. Generated input is made, whatever the shelf
+-- has.
 use Rattle.std.specs.Prelude.{ℕ, List, true, false, Option, Some, None, Result, Ok, Err}
 use Rattle.byte_shelf.specs.Shelf.{Files, file_of, whole_file}
 use Rattle.byte_shelf.specs.declared.answers.ReadAll.{ReadAll}
@@ -9,12 +10,15 @@ use Rattle.svm_model.specs.Formats.ImageBytes.{image_of, image_limit}
 use Rattle.svm_model.specs.Formats.Script.{Script as ScriptRecord, ScriptFault, script_of, script_limit}
 use Rattle.svm_model.specs.declared.formats.ImageReason.TheVariants.{TooLong as ImageTooLong}
 use Rattle.svm_model.specs.declared.formats.ScriptReason.TheVariants.{TooLong as ScriptTooLong}
-use Rattle.svm_run.specs.Words.{Asked, asked_of}
+use Rattle.svm_run.specs.Words.{Asked, Files as NamedFiles, Made as OfNumbers, asked_of}
 use Rattle.svm_run.specs.declared.status.Status.{Status}
 use Rattle.svm_run.specs.declared.status.Status.TheVariants.{Words, Input, OutsideFault, NoMemory}
 use Rattle.svm_run.specs.declared.status.InputFault.TheVariants.{Missing, Image, Script}
 use Rattle.svm_run.specs.declared.status.OutsideFault.TheVariants.{Read}
+use Rattle.svm_run.specs.declared.words.Numbers.{Numbers}
 use Rattle.svm_run.specs.declared.words.Work.{Work}
+use Rattle.svm_run.specs.declared.words.Work.TheVariants.{Made}
+use Rattle.workload.specs.Generated.{made_image, made_script}
 
 -- an image, a script for it, and what is asked for of the run
 pub record Job : Type 0 where
@@ -60,13 +64,17 @@ abbrev pub job_with_script : Work → ImageRecord → Result ScriptRecord Status
 job_with_script work image (Err status) = Err status
 job_with_script work image (Ok script) = Ok (job work image script)
 
-abbrev pub job_with_image : Option Files → Asked → Result ImageRecord Status → Result Job Status
-job_with_image files asked (Err status) = Err status
-job_with_image files asked (Ok image) = job_with_script asked.work image (script_in image files asked.script)
+abbrev pub job_with_image : Option Files → Work → List ℕ → Result ImageRecord Status → Result Job Status
+job_with_image files work script (Err status) = Err status
+job_with_image files work script (Ok image) = job_with_script work image (script_in image files script)
+
+abbrev pub made_job : Numbers → Job
+made_job numbers = job (Made numbers) (made_image numbers.seed numbers.size) (made_script numbers.size)
 
 abbrev pub job_with_names : Option Files → Option Asked → Result Job Status
 job_with_names files None = Err Words
-job_with_names files (Some asked) = job_with_image files asked (image_in files asked.image)
+job_with_names files (Some (NamedFiles work image script)) = job_with_image files work script (image_in files image)
+job_with_names files (Some (OfNumbers numbers)) = Ok (made_job numbers)
 
 abbrev pub job_of : Option Files → List (List ℕ) → Result Job Status
 job_of files words = job_with_names files (asked_of words)

@@ -5,4 +5,5 @@ pub mod Outcome
 pub mod StatusLine
 pub mod Statuses
 pub mod Stops
+pub mod Summary
 pub mod Words

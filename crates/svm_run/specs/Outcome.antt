@@ -1,9 +1,9 @@
 -- What the program answers and prints where nothing outside fails and memory is ample, and how far a run is after some
 -- events.
-use Rattle.std.specs.Prelude.{ℕ, ◌==◌, List, [], ◌∷◌, Bool, true, false, if◌then◌else◌, Option, Result, Ok, Err, is_some, length, take}
+use Rattle.std.specs.Prelude.{ℕ, ◌==◌, List, [], ◌∷◌, Bool, true, false, if◌then◌else◌, Option, None, Result, Ok, Err, is_some, length, replicate, take}
 use Rattle.byte_shelf.specs.Shelf.{Files}
 use Rattle.svm_model.specs.Audit.Verdicts.{Audited, audit_of, verdict_of}
-use Rattle.svm_model.specs.Machine.Bus.{Bus}
+use Rattle.svm_model.specs.Machine.Bus.{Bus, device_count}
 use Rattle.svm_model.specs.Machine.Guest.{Guest}
 use Rattle.svm_model.specs.Formats.Script.{events_of}
 use Rattle.svm_model.specs.Formats.Text.{◌⧺◌, report}
@@ -17,10 +17,12 @@ use Rattle.svm_model.specs.declared.audits.Verdict.TheVariants.{Keeps, Breach as
 use Rattle.svm_model.specs.declared.names.Event.{Event}
 use Rattle.svm_run.specs.Jobs.{Job, job_of}
 use Rattle.svm_run.specs.StatusLine.{status_line}
+use Rattle.svm_run.specs.Summary.{summary}
 use Rattle.svm_run.specs.declared.status.Status.{Status}
 use Rattle.svm_run.specs.declared.status.Status.TheVariants.{Done, Breach, LeftProfile}
+use Rattle.svm_run.specs.declared.words.Numbers.{Numbers}
 use Rattle.svm_run.specs.declared.words.Work.{Work}
-use Rattle.svm_run.specs.declared.words.Work.TheVariants.{Run, Trace, Audit}
+use Rattle.svm_run.specs.declared.words.Work.TheVariants.{Run, Trace, Audit, Made}
 
 -- a status, what is printed before the program ends with it, how many events were run, and the bus behind them
 pub record Outcome : Type 0 where
@@ -42,13 +44,14 @@ abbrev pub status_ended : List Guest → Status
 status_ended guests = if has_ended guests then LeftProfile else Done
 
 -- What is printed of the events: of each dump its line, or of each event its block, and the report behind the last; or only
--- the verdict on the run.
+-- the verdict on the run, or the summary.
 
 -- what an event prints, by the world and the bus that it finds
 abbrev pub event_text : Work → World → Bus → Event → List ℕ
 event_text Run w bus event = shown_line w event
 event_text Trace w bus event = block w bus event
 event_text Audit w bus event = []
+event_text (Made numbers) w bus event = []
 
 -- what the events of a list print, one after another
 unfoldable pub texts_of : Work → World → Bus → List Event → List ℕ
@@ -77,14 +80,42 @@ outcome_audited events audited = record {
   bus = audited.bus;
 }
 
+-- Generated input is run and audited on a bus of its own, with no device and no write so far, so that the bus is as it was.
+
+abbrev pub no_devices : Bus
+no_devices = record { devices = replicate device_count None; output = [] }
+
+abbrev pub status_made : List Guest → Verdict → Status
+status_made guests (Keeps events) = status_ended guests
+status_made guests (BreachOf breach) = Breach
+
+-- the run led here, and this is the verdict on it
+unfoldable pub outcome_summed : Numbers → Bus → Led → Verdict → Outcome
+outcome_summed numbers bus ran verdict = record {
+  status = status_made ran.world.guests verdict;
+  text = summary numbers ran.world verdict;
+  events = ran.world.event;
+  bus = bus;
+}
+
+-- the verdict on events that were run before on this bus
+abbrev pub verdict_behind : World → Bus → List Event → Verdict
+verdict_behind w bus events = verdict_of (length events) (audit_of w bus events).breach
+
+abbrev pub outcome_made : Numbers → World → Bus → List Event → Outcome
+outcome_made numbers w bus events =
+    outcome_summed numbers bus (plain_run w no_devices events) (verdict_behind w (plain_run w no_devices events).bus events)
+
 -- a job that prints the report of its run
 abbrev pub PrintsReport : Work → Type 0
 PrintsReport Run = Unit {0}
 PrintsReport Trace = Unit {0}
 PrintsReport Audit = ⊥
+PrintsReport (Made numbers) = ⊥
 
 abbrev pub outcome_for : Work → World → Bus → List Event → Outcome
 outcome_for Audit w bus events = outcome_audited (length events) (audit_of w bus events)
+outcome_for (Made numbers) w bus events = outcome_made numbers w bus events
 outcome_for work w bus events = outcome_after (texts_of work w bus events) (plain_run w bus events)
 
 -- all events of a job are run, or those that an audit runs

@@ -16,9 +16,9 @@ use Rattle.svm_run.specs.Outcome.{event_text, texts_of}
 use Rattle.svm_run.specs.declared.running.RunFault.{RunFault}
 use Rattle.svm_run.specs.declared.running.RunFault.TheVariants.{NoMemory, Bus, Unprinted}
 use Rattle.svm_run.specs.declared.status.Status.{Status}
-use Rattle.svm_run.specs.Words.{Asked}
+use Rattle.svm_run.specs.Words.{Asked, Files as NamedFiles, Made as OfNumbers}
 use Rattle.svm_run.specs.declared.words.Work.{Work}
-use Rattle.svm_run.specs.declared.words.Work.TheVariants.{Run, Trace, Audit}
+use Rattle.svm_run.specs.declared.words.Work.TheVariants.{Run, Trace, Audit, Made}
 use Rattle.svm_run.specs.declared.status.Status.TheVariants as status
 use Rattle.svm_run.specs.declared.status.OutsideFault.TheVariants as outside
 
@@ -99,13 +99,15 @@ IsOfCounts (Bus end) devices devices' before now = Blames end devices devices'
 IsOfCounts (Unprinted refusal) devices devices' before now = IsOfSink refusal before now
 
 -- How many reads of guests' memories are counted, from one number to another, in so many events. A traced run reads the pages
--- that it compares besides, and has no bound.
+-- that it compares besides, and has no bound; generated input is run twice, once to be audited.
 abbrev pub AreRead : Work → (old new events : ℕ) → Type 0
 AreRead Run old new events = (old ≤ new) × (new ≤ old + 6368 * events)
 AreRead Trace old new events = old ≤ new
 AreRead Audit old new events = (old ≤ new) × (new ≤ old + 6368 * events)
+AreRead (Made numbers) old new events = (old ≤ new) × (new ≤ old + 2 * (6368 * events))
 
 -- by what the words ask for; none without words that ask for something
 abbrev pub AreReadFor : Option Asked → (old new events : ℕ) → Type 0
 AreReadFor None old new events = new ≡ old
-AreReadFor (Some asked) old new events = AreRead asked.work old new events
+AreReadFor (Some (NamedFiles work image script)) old new events = AreRead work old new events
+AreReadFor (Some (OfNumbers numbers)) old new events = AreRead (Made numbers) old new events

@@ -1,9 +1,7 @@
 // Audits, whose verdicts are worked out by hand from the rules of maintenance.
 
 use crate::status::{OutsideFault, Status};
-use crate::tests::{HALT, Job, done};
-use std::marker::Brand;
-use std::sync::ledger::Blank;
+use crate::tests::{HALT, Job, ends_as};
 use std::test::Fail;
 
 const AUDIT: [&str; 3] = ["audit", "one.img", "one.script"];
@@ -56,17 +54,7 @@ fn audits_end_in_a_verdict(rt: HostRuntime) -> Result<(), Fail> {
         ),
     ];
     for (job, status, text) in table {
-        let (code, second) = (job.code, job.second);
-        assert!(rt; code.len() < 256 && second.len() < 256);
-        let (found, sink, _writes) = done::<Brand, Brand>(
-            &rt,
-            rt.alloc(),
-            job,
-            Blank::new(1),
-            Blank::new(1),
-        )?;
-        assert!(rt; found == status, "{found:?}");
-        assert!(rt; sink.bytes() == text.as_bytes(), "{text}");
+        ends_as(&rt, rt.alloc(), job, status, text, 0)?;
     }
     Ok(())
 }

@@ -2,24 +2,29 @@
 //!
 //! With the words `run IMAGE SCRIPT` it runs the events of a script on the plain machine of an image, prints the line of
 //! each dump as it comes, and then the report; with `trace IMAGE SCRIPT` it prints a block of lines for each event; with
-//! `audit IMAGE SCRIPT` it prints the verdict: whether the run keeps the rules of maintenance, else its first breach. The job
-//! itself is `svm_run` in `top.rt`, over any shelf of files and any sink of bytes: its contract compares every answer, every
-//! printed byte and the bus with one definition, `outcome_of` in `specs/Outcome.antt`. `main` makes the real files, the bus
-//! and its devices, the real output and the counters, calls it, and ends with the status's exit code.
+//! `audit IMAGE SCRIPT` it prints the verdict: whether the run keeps the rules of maintenance, else its first breach; with
+//! `made SEED SIZE` it makes an image and a script, runs and audits them, and prints a summary. The job itself is `svm_run` in
+//! `top.rt`, over any shelf of files and any sink of bytes: its contract compares every answer, every printed byte and the bus
+//! with one definition, `outcome_of` in `specs/Outcome.antt`. `main` makes the real files, the bus and its devices, the real
+//! output and the counters, calls it, prints the usage text behind a refusal of the words, and ends with the status's exit code.
 #![tactic(auto)]
 
 ghost use Rattle.std.specs.Prelude.{◌≡◌, ◌<◌};
 
 mod dumps;
 mod inputs;
+mod made;
+mod no_devices;
 mod printing;
 mod report;
 mod running;
 mod status;
 mod status_line;
+mod summary;
 mod top;
 mod tracing;
 mod unwatched;
+mod usage;
 mod words;
 
 use byte_shelf::{FileShelf, StdSink};
@@ -33,14 +38,27 @@ use std::marker::Brand;
 use std::process::ExitCode;
 use std::sync::ledger::{Blank, Ledger};
 use top::svm_run;
+use usage::usage;
 
 fn main(rt: HostRuntime) -> ExitCode {
-    ExitCode::from(start(rt).code())
+    let status = start(&rt);
+    if matches!(status, Status::Words) {
+        print_usage(&rt);
+    }
+    ExitCode::from(status.code())
+}
+
+/// Prints the usage text behind a refusal of the words. Where there is no memory for it, or the print fails, no more is
+/// printed.
+fn print_usage(rt: &HostRuntime) {
+    if let Ok(text) = usage(rt.alloc()) {
+        let _ = print!(rt; "{text}");
+    }
 }
 
 /// Takes the words. One that is not text is none of the words that the program knows.
-fn start(rt: HostRuntime) -> Status {
-    let args = match env::args(&rt) {
+fn start(rt: &HostRuntime) -> Status {
+    let args = match env::args(rt) {
         Ok(args) => args,
         Err(error) if error.kind() == ErrorKind::OutOfMemory => return Status::NoMemory,
         Err(_) => return Status::Words,
@@ -52,8 +70,8 @@ fn start(rt: HostRuntime) -> Status {
 }
 
 /// Makes the real objects, and runs.
-fn run_words(rt: HostRuntime, words: Vec<String>) -> Status {
-    match open(&rt, &words) {
+fn run_words(rt: &HostRuntime, words: Vec<String>) -> Status {
+    match open(rt, &words) {
         Ok(status) => status,
         Err(AllocError) => Status::NoMemory,
     }
@@ -114,6 +132,6 @@ fn run<L: Ledger, M: Ledger>(
 #[cfg(test)]
 mod audit_tests;
 #[cfg(test)]
-mod guest_tests;
+mod made_tests;
 #[cfg(test)]
 mod tests;

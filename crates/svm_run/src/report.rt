@@ -26,7 +26,7 @@ fn guest_count(image: &Image) -> u8
 }
 
 /// The number of a guest's vcpus.
-fn vcpu_count(image: &Image, guest: GuestId) -> u8
+pub fn vcpu_count(image: &Image, guest: GuestId) -> u8
     requires lawful { IsLawfulImage image.now }
     requires there { guest.0 < length image.now.guests }
     ensures { slice_get (image_shape image.now).vcpus guest.0 ≡ Some result }

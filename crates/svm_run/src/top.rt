@@ -16,12 +16,13 @@ ghost use Rattle.svm_model.specs.Machine.World.{world_of};
 ghost use Rattle.svm_model.specs.Formats.VerdictText.{verdict_text as verdict_line};
 
 use crate::inputs::{open_image, open_script};
+use crate::made::run_made;
 use crate::printing::{print_last, refuse};
 use crate::report::{end_status, report};
 use crate::running::{Dumps, RunFault, Teller, run_events};
 use crate::status::{OutsideFault, Status};
 use crate::tracing::Blocks;
-use crate::words::{Work, read_words};
+use crate::words::{Asked, Work, read_words};
 use auditor::{Verdict, audit};
 use byte_shelf::{Shelf, Sink, SinkRefusal};
 use host_memory::Steps;
@@ -32,6 +33,7 @@ use report_text::{Tracer, verdict_text};
 use script_format::Script;
 use std::alloc::Global;
 use std::sync::ledger::Ledger;
+use workload::{made_image, made_script};
 
 /// Prints the report of an image's machine that has run all events.
 #[tactic(auto, unfolding(crate::specs::Outcome::outcome_after))]
@@ -118,7 +120,8 @@ fn print_verdict<K: Sink>(alloc: Global, verdict: &Verdict, sink: &mut K) -> Sta
     print_last(sink, &text, status)
 }
 
-/// Runs a script on the machine of an image, and tells of its events as is asked for, or audits it.
+/// Runs a script on the machine of an image, and tells of its events as is asked for, or audits it, or both as of generated
+/// input.
 #[tactic(auto, using(crate::proofs::Stops::stops))]
 fn run_job<B: Ports, K: Sink, L: Ledger>(
     alloc: Global,
@@ -153,12 +156,15 @@ fn run_job<B: Ports, K: Sink, L: Ledger>(
             Ok(verdict) => print_verdict(alloc, &verdict, sink),
             Err(end) => refuse(sink, status_of(RunFault::Bus(end))),
         },
+        Work::Made(numbers) => run_made(alloc, numbers, image, script, sink, steps),
     }
 }
 
 /// Does the job that the words name: `run IMAGE SCRIPT` reads an image and a script from the shelf, runs the script's
 /// events on the machine of the image beside the bus of port devices, prints the line of each dump to the sink at its event,
-/// and the report behind the last; `trace IMAGE SCRIPT` does the same, but prints a block of lines at each event.
+/// and the report behind the last; `trace IMAGE SCRIPT` does the same, but prints a block of lines at each event. `audit IMAGE
+/// SCRIPT` runs them and prints the verdict on the run, and `made SEED SIZE` makes its input, runs and audits it on a bus of
+/// its own, and prints the summary.
 ///
 /// Where the shelf tells its files, the status is that of `outcome_of`, unless something outside failed or memory ran out,
 /// and what the bus and the sink are left with is what the status means (`Ends`). A refusal is told by its line, and the
@@ -203,13 +209,31 @@ pub fn svm_run<H: Shelf, K: Sink, L: Ledger, M: Ledger>(
     let Some(asked) = read_words(words) else {
         return refuse(sink, Status::Words);
     };
-    let image = match open_image(alloc, shelf, asked.image) {
-        Ok(image) => image,
-        Err(status) => return refuse(sink, status),
-    };
-    let script = match open_script(alloc, shelf, asked.script, &image) {
-        Ok(script) => script,
-        Err(status) => return refuse(sink, status),
-    };
-    run_job(alloc, asked.work, &image, &script, bus, sink, steps)
+    match asked {
+        Asked::Files {
+            work,
+            image,
+            script,
+        } => {
+            let image = match open_image(alloc, shelf, image) {
+                Ok(image) => image,
+                Err(status) => return refuse(sink, status),
+            };
+            let script = match open_script(alloc, shelf, script, &image) {
+                Ok(script) => script,
+                Err(status) => return refuse(sink, status),
+            };
+            run_job(alloc, work, &image, &script, bus, sink, steps)
+        }
+        Asked::Made(numbers) => {
+            let Ok(image) = made_image(alloc, numbers.seed, numbers.size) else {
+                return refuse(sink, Status::NoMemory);
+            };
+            let Ok(script) = made_script(alloc, numbers.size) else {
+                return refuse(sink, Status::NoMemory);
+            };
+            let work = Work::Made(numbers);
+            run_job(alloc, work, &image, &script, bus, sink, steps)
+        }
+    }
 }

@@ -1,5 +1,5 @@
 -- The verdict was printed, the audit was cut off, or there was no memory for the copy that a traced run keeps.
-use Rattle.std.proofs.Common.{◌≡◌, ◌∙◌, ◌⊎◌, ℕ, ap, refl, subst, sym, arith}
+use Rattle.std.proofs.Common.{◌≡◌, ◌∙◌, ◌⊎◌, ap, refl, subst, sym, arith}
 use Rattle.fault_counts.specs.Causes.{Rose}
 use Rattle.svm_model.specs.Formats.VerdictText.{verdict_text as verdict_line}
 use Rattle.svm_run.specs.Answers.{EndsRun}

@@ -1,4 +1,4 @@
--- How far the run came where the input could not be read.
+-- How far the run came where the input could not be read or made, and what is to blame where it could.
 use Rattle.svm_run.proofs.Endings.{ends-unread}
 use Rattle.svm_run.proofs.top.svm_run.Goals as goal
 
@@ -9,3 +9,17 @@ returns-in-Err-clause-ends g c =
 pub returns-in-Err-open_script-clause-ends : goal.returns-in-Err-open_script-clause-ends
 returns-in-Err-open_script-clause-ends g c =
     ends-unread _ _ _ _ _ _ _ _ _ _ c.refuse-in-Err-open_script.ensures.same c.in-Err-open_script.ensures.cause c.refuse-in-Err-open_script.ensures.line
+
+pub returns-in_default-made_image-clause-ends : goal.returns-in_default-made_image-clause-ends
+returns-in_default-made_image-clause-ends g c =
+    ends-unread _ _ _ _ 0 0 _ _ _ _ c.refuse-in_default-made_image.ensures.same tt c.refuse-in_default-made_image.ensures.line
+
+pub returns-in_default-made_script-clause-ends : goal.returns-in_default-made_script-clause-ends
+returns-in_default-made_script-clause-ends g c =
+    ends-unread _ _ _ _ 0 0 _ _ _ _ c.refuse-in_default-made_script.ensures.same tt c.refuse-in_default-made_script.ensures.line
+
+pub returns-in-Ok-open_script-clause-cause : goal.returns-in-Ok-open_script-clause-cause
+returns-in-Ok-open_script-clause-cause g c = c.run_job.ensures.cause _ _
+
+pub returns-in-Ok-made_script-clause-cause : goal.returns-in-Ok-made_script-clause-cause
+returns-in-Ok-made_script-clause-cause g c = c.run_job-in-Made.ensures.cause _ _

@@ -1,0 +1,3 @@
+pub mod LawfulImages
+pub mod LawfulScripts
+pub mod Ranges
