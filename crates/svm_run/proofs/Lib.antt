@@ -13,3 +13,4 @@ pub mod Shown
 pub mod Stops
 pub mod SummaryLemmas
 pub mod TracedLemmas
+pub mod Works

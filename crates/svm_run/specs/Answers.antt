@@ -15,10 +15,11 @@ use Rattle.svm_run.specs.Outcome.{completed, events_text, led_until, text_until}
 use Rattle.svm_run.specs.StatusLine.{status_line}
 use Rattle.svm_run.specs.Statuses.{EventsRun, NoEvents, FirstEvents, NotAllEvents, EventsToLine, AllEvents, Printed, WholeText, PartOfText, TextThenLine, PartThenLine, LineAlone, Blame, NothingOutside, TheShelf, TheSink, TheDevice, WantOfMemory, Meaning, meaning_of}
 use Rattle.svm_run.specs.declared.status.Status.{Status}
-use Rattle.svm_run.specs.declared.status.Status.TheVariants.{Input, OutsideFault, NoMemory}
+use Rattle.svm_run.specs.Words.{Asked, Files, Made as OfNumbers}
+use Rattle.svm_run.specs.declared.status.Status.TheVariants.{Input, Breach, OutsideFault, NoMemory, LeftProfile}
 use Rattle.svm_run.specs.declared.status.OutsideFault.TheVariants.{Read}
 use Rattle.svm_run.specs.declared.words.Work.{Work}
-use Rattle.svm_run.specs.declared.words.Work.TheVariants.{Audit, Made}
+use Rattle.svm_run.specs.declared.words.Work.TheVariants.{Run, Trace, Audit, Made}
 
 -- What a sink received.
 
@@ -105,6 +106,34 @@ pub record EndsUnrun (m : Meaning) (line : List ℕ) (before after : Bus) (old n
 abbrev pub Ends : Status → Result Job Status → (before after : Bus) → (old new : Option (List ℕ)) → Type 0 → Type 0
 Ends status (Err told) before after old new refused = EndsUnrun (meaning_of status) (status_line status) before after old new refused
 Ends status (Ok job) before after old new refused = EndsRun (meaning_of status) (status_line status) job before after old new refused
+
+-- Which works end so.
+
+-- an audit is made
+abbrev pub Audits : Work → Type 0
+Audits Run = ⊥
+Audits Trace = ⊥
+Audits Audit = Unit {0}
+Audits (Made numbers) = Unit {0}
+
+-- it is told that a guest was ended
+abbrev pub TellsEnds : Work → Type 0
+TellsEnds Run = Unit {0}
+TellsEnds Trace = Unit {0}
+TellsEnds Audit = ⊥
+TellsEnds (Made numbers) = Unit {0}
+
+-- a work may end by this status
+abbrev pub MayEnd : Status → Work → Type 0
+MayEnd Breach work = Audits work
+MayEnd LeftProfile work = TellsEnds work
+MayEnd _ work = Unit {0}
+
+-- what is asked for may end by this status
+abbrev pub MayEndAsked : Status → Option Asked → Type 0
+MayEndAsked status None = Unit {0}
+MayEndAsked status (Some (Files work image script)) = MayEnd status work
+MayEndAsked status (Some (OfNumbers numbers)) = MayEnd status (Made numbers)
 
 -- Causes.
 

@@ -4,7 +4,7 @@ ghost use Rattle.fault_counts.specs.Causes.{Rose};
 ghost use Rattle.svm_model.specs.Formats.LawfulImages.{IsLawfulImage};
 ghost use Rattle.svm_model.specs.Formats.Script.{IsLawful, events_of};
 ghost use Rattle.svm_model.specs.Machine.Shapes.{image_shape, world_shape};
-ghost use Rattle.svm_run.specs.Answers.{Ends, EndsPrinting, EndsRun, HasCause, IsBeforeRun, IsDetermined, ReceivesLine};
+ghost use Rattle.svm_run.specs.Answers.{Ends, EndsPrinting, EndsRun, HasCause, IsBeforeRun, IsDetermined, MayEndAsked, ReceivesLine};
 ghost use Rattle.svm_run.specs.Jobs.{job, job_of, Job};
 ghost use Rattle.svm_run.specs.Outcome.{outcome_of, outcome_after, completed, status_by, PrintsReport};
 ghost use Rattle.svm_run.specs.StatusLine.{status_line};
@@ -184,6 +184,8 @@ pub fn svm_run<H: Shelf, K: Sink, L: Ledger, M: Ledger>(
     ensures only_words { result ≡ Status.Words → asked_of (map (λ w. w.now) words.now) ≡ None }
     ensures exact { IfSome (H.files shelf.old) (λ _. IsDetermined result →
         result ≡ (outcome_of (⟦<Bus as BusState>⟧.bus bus.old) (H.files shelf.old) (map (λ w. w.now) words.now)).status) }
+    // A breach comes of an audit alone, and an end of a guest is told of what is run to a report or a summary.
+    ensures works { MayEndAsked result (asked_of (map (λ w. w.now) words.now)) }
     // What is blamed counted a fault in this call.
     ensures cause { HasCause (meaning_of result).blame (H.faults shelf.old) (H.faults shelf.new) (K.faults sink.old) (K.faults sink.new)
         (⟦<Bus as BusState>⟧.faults bus.old) (⟦<Bus as BusState>⟧.faults bus.new) }
